@@ -15,7 +15,7 @@ ghost use Rattle.x509.specs.contracts.attribute.AttributeNotation.TheImpl.Laws.{
 
 use x509::Attribute;
 use yasna::tags::TAG_SET;
-use yasna::{ASN1Result, BERReader, DERWriter, Tag};
+use yasna::{ASN1Result, BERMode, BERReader, DERWriter, PrependBuffer, Tag};
 use yasna_notation::{Bounded, Message, NotEmpty, Notation, Represents, SetOf, read_as};
 
 type Set = Bounded<SetOf<Attribute>, NotEmpty>;
@@ -52,6 +52,14 @@ impl Notation for Attributes {
 
     fn write(value: &Attributes, writer: DERWriter<'_>) -> ASN1Result<()> {
         <Set as Notation>::write(&value.attributes, writer)
+    }
+
+    fn prepend(value: &Attributes, under: Option<Tag>, out: &mut PrependBuffer) -> ASN1Result<()> {
+        <Set as Notation>::prepend(&value.attributes, under, out)
+    }
+
+    fn encoded_len(value: &Attributes, under: Option<Tag>, mode: BERMode) -> Option<usize> {
+        <Set as Notation>::encoded_len(&value.attributes, under, mode)
     }
 
     ghost lawful = { λ _. represented_lawful ⟦<Attributes as Represents<Vec<Attribute>>>⟧.value_of

@@ -28,7 +28,7 @@ ghost use Rattle.cms.specs.declared.certificate_choices.CertificateChoices.TheVa
 
 use x509::Certificate;
 use yasna::models::TaggedDerValue;
-use yasna::{ASN1Result, BERReader, DERWriter, Tag};
+use yasna::{ASN1Result, BERMode, BERReader, DERWriter, PrependBuffer, Tag};
 use yasna_notation::Either::{First, Second};
 use yasna_notation::{
     Alternatives, Choice, Context, Either, Implicit, Message, Notation, Represents, SequenceOf,
@@ -113,6 +113,40 @@ impl Notation for CertificateChoices {
             CertificateChoices::V1AttrCert(parts) => V1::write(parts, writer),
             CertificateChoices::V2AttrCert(parts) => V2::write(parts, writer),
             CertificateChoices::Other(parts) => OtherFormat::write(parts, writer),
+        }
+    }
+
+    fn prepend(
+        value: &CertificateChoices,
+        under: Option<Tag>,
+        out: &mut PrependBuffer,
+    ) -> ASN1Result<()> {
+        match value {
+            CertificateChoices::Certificate(certificate) => <Certificate as Notation>::prepend(
+                certificate,
+                under,
+                out,
+            ),
+            CertificateChoices::ExtendedCertificate(parts) => Extended::prepend(parts, under, out),
+            CertificateChoices::V1AttrCert(parts) => V1::prepend(parts, under, out),
+            CertificateChoices::V2AttrCert(parts) => V2::prepend(parts, under, out),
+            CertificateChoices::Other(parts) => OtherFormat::prepend(parts, under, out),
+        }
+    }
+
+    fn encoded_len(value: &CertificateChoices, under: Option<Tag>, mode: BERMode) -> Option<usize> {
+        match value {
+            CertificateChoices::Certificate(certificate) => <Certificate as Notation>::encoded_len(
+                certificate,
+                under,
+                mode,
+            ),
+            CertificateChoices::ExtendedCertificate(parts) => Extended::encoded_len(
+                parts, under, mode,
+            ),
+            CertificateChoices::V1AttrCert(parts) => V1::encoded_len(parts, under, mode),
+            CertificateChoices::V2AttrCert(parts) => V2::encoded_len(parts, under, mode),
+            CertificateChoices::Other(parts) => OtherFormat::encoded_len(parts, under, mode),
         }
     }
 

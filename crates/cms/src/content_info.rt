@@ -18,7 +18,7 @@ ghost use Rattle.yasna_notation.specs.contracts.any.TaggedDerValueNotation.TheIm
 
 use yasna::models::{ObjectIdentifier, TaggedDerValue};
 use yasna::tags::TAG_SEQUENCE;
-use yasna::{ASN1Result, BERReader, DERWriter, Tag};
+use yasna::{ASN1Result, BERMode, BERReader, DERWriter, PrependBuffer, Tag};
 use yasna_notation::{Context, Explicit, Message, Notation, Represents, Sequence, read_as};
 
 type Content = Explicit<Context<0>, TaggedDerValue>;
@@ -62,6 +62,14 @@ impl Notation for ContentInfo {
 
     fn write(value: &ContentInfo, writer: DERWriter<'_>) -> ASN1Result<()> {
         Sequence::<Parts>::write_fields((&value.content_type, (&value.content, ())), writer)
+    }
+
+    fn prepend(value: &ContentInfo, under: Option<Tag>, out: &mut PrependBuffer) -> ASN1Result<()> {
+        Sequence::<Parts>::prepend_fields((&value.content_type, (&value.content, ())), under, out)
+    }
+
+    fn encoded_len(value: &ContentInfo, under: Option<Tag>, mode: BERMode) -> Option<usize> {
+        Sequence::<Parts>::fields_len((&value.content_type, (&value.content, ())), under, mode)
     }
 
     ghost lawful = { λ _. represented_lawful ⟦<ContentInfo as Represents<Fields>>⟧.value_of

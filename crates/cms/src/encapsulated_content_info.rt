@@ -18,7 +18,7 @@ ghost use Rattle.yasna_notation.specs.contracts.strings.VecU8Notation.TheImpl.La
 
 use yasna::models::ObjectIdentifier;
 use yasna::tags::TAG_SEQUENCE;
-use yasna::{ASN1Result, BERReader, DERWriter, Tag};
+use yasna::{ASN1Result, BERMode, BERReader, DERWriter, PrependBuffer, Tag};
 use yasna_notation::{
     Context, Explicit, Message, Notation, Optional, Represents, Sequence, read_as,
 };
@@ -64,6 +64,26 @@ impl Notation for EncapsulatedContentInfo {
 
     fn write(value: &EncapsulatedContentInfo, writer: DERWriter<'_>) -> ASN1Result<()> {
         Sequence::<Parts>::write_fields((&value.e_content_type, (&value.e_content, ())), writer)
+    }
+
+    fn prepend(
+        value: &EncapsulatedContentInfo,
+        under: Option<Tag>,
+        out: &mut PrependBuffer,
+    ) -> ASN1Result<()> {
+        Sequence::<Parts>::prepend_fields(
+            (&value.e_content_type, (&value.e_content, ())),
+            under,
+            out,
+        )
+    }
+
+    fn encoded_len(
+        value: &EncapsulatedContentInfo,
+        under: Option<Tag>,
+        mode: BERMode,
+    ) -> Option<usize> {
+        Sequence::<Parts>::fields_len((&value.e_content_type, (&value.e_content, ())), under, mode)
     }
 
     ghost lawful = { λ _. represented_lawful ⟦<EncapsulatedContentInfo as Represents<Fields>>⟧.value_of

@@ -25,7 +25,7 @@ ghost use Rattle.x509.specs.contracts.algorithm.AlgorithmIdentifierNotation.TheI
 use x509::AlgorithmIdentifier;
 use yasna::models::ObjectIdentifier;
 use yasna::tags::TAG_SEQUENCE;
-use yasna::{ASN1Result, BERReader, DERWriter, Tag};
+use yasna::{ASN1Result, BERMode, BERReader, DERWriter, PrependBuffer, Tag};
 use yasna_notation::{
     Context, Implicit, Message, Notation, Optional, Represents, Sequence, read_as,
 };
@@ -89,6 +89,42 @@ impl Notation for EncryptedContentInfo {
                 ),
             ),
             writer,
+        )
+    }
+
+    fn prepend(
+        value: &EncryptedContentInfo,
+        under: Option<Tag>,
+        out: &mut PrependBuffer,
+    ) -> ASN1Result<()> {
+        Sequence::<Parts>::prepend_fields(
+            (
+                &value.content_type,
+                (
+                    &value.content_encryption_algorithm,
+                    (&value.encrypted_content, ()),
+                ),
+            ),
+            under,
+            out,
+        )
+    }
+
+    fn encoded_len(
+        value: &EncryptedContentInfo,
+        under: Option<Tag>,
+        mode: BERMode,
+    ) -> Option<usize> {
+        Sequence::<Parts>::fields_len(
+            (
+                &value.content_type,
+                (
+                    &value.content_encryption_algorithm,
+                    (&value.encrypted_content, ()),
+                ),
+            ),
+            under,
+            mode,
         )
     }
 

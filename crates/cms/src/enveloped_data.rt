@@ -29,7 +29,7 @@ use crate::attributes::Attributes;
 use crate::encrypted_content_info::EncryptedContentInfo;
 use yasna::models::TaggedDerValue;
 use yasna::tags::TAG_SEQUENCE;
-use yasna::{ASN1Result, BERReader, DERWriter, Tag};
+use yasna::{ASN1Result, BERMode, BERReader, DERWriter, PrependBuffer, Tag};
 use yasna_notation::{
     AtMost, Bounded, Context, Implicit, Message, NotEmpty, Notation, Optional, Represents,
     Sequence, SequenceOf, SetOf, read_as,
@@ -119,6 +119,50 @@ impl Notation for EnvelopedData {
                 ),
             ),
             writer,
+        )
+    }
+
+    fn prepend(
+        value: &EnvelopedData,
+        under: Option<Tag>,
+        out: &mut PrependBuffer,
+    ) -> ASN1Result<()> {
+        Sequence::<Parts>::prepend_fields(
+            (
+                &value.version,
+                (
+                    &value.originator_info,
+                    (
+                        &value.recipient_infos,
+                        (
+                            &value.encrypted_content_info,
+                            (&value.unprotected_attrs, ()),
+                        ),
+                    ),
+                ),
+            ),
+            under,
+            out,
+        )
+    }
+
+    fn encoded_len(value: &EnvelopedData, under: Option<Tag>, mode: BERMode) -> Option<usize> {
+        Sequence::<Parts>::fields_len(
+            (
+                &value.version,
+                (
+                    &value.originator_info,
+                    (
+                        &value.recipient_infos,
+                        (
+                            &value.encrypted_content_info,
+                            (&value.unprotected_attrs, ()),
+                        ),
+                    ),
+                ),
+            ),
+            under,
+            mode,
         )
     }
 

@@ -17,7 +17,7 @@ ghost use Rattle.x509.specs.contracts.name.NameNotation.TheImpl.Laws.{lawful-law
 
 use x509::Name;
 use yasna::tags::TAG_SEQUENCE;
-use yasna::{ASN1Result, BERReader, DERWriter, Tag};
+use yasna::{ASN1Result, BERMode, BERReader, DERWriter, PrependBuffer, Tag};
 use yasna_notation::{BigInteger, Message, Notation, Represents, Sequence, read_as};
 
 type Parts = (Name, (BigInteger, ()));
@@ -60,6 +60,22 @@ impl Notation for IssuerAndSerialNumber {
 
     fn write(value: &IssuerAndSerialNumber, writer: DERWriter<'_>) -> ASN1Result<()> {
         Sequence::<Parts>::write_fields((&value.issuer, (&value.serial_number, ())), writer)
+    }
+
+    fn prepend(
+        value: &IssuerAndSerialNumber,
+        under: Option<Tag>,
+        out: &mut PrependBuffer,
+    ) -> ASN1Result<()> {
+        Sequence::<Parts>::prepend_fields((&value.issuer, (&value.serial_number, ())), under, out)
+    }
+
+    fn encoded_len(
+        value: &IssuerAndSerialNumber,
+        under: Option<Tag>,
+        mode: BERMode,
+    ) -> Option<usize> {
+        Sequence::<Parts>::fields_len((&value.issuer, (&value.serial_number, ())), under, mode)
     }
 
     ghost lawful = { λ _. represented_lawful ⟦<IssuerAndSerialNumber as Represents<Fields>>⟧.value_of

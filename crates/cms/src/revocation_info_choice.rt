@@ -24,7 +24,7 @@ ghost use Rattle.cms.specs.declared.revocation_info_choice.RevocationInfoChoice.
 
 use x509::CertificateList;
 use yasna::models::TaggedDerValue;
-use yasna::{ASN1Result, BERReader, DERWriter, Tag};
+use yasna::{ASN1Result, BERMode, BERReader, DERWriter, PrependBuffer, Tag};
 use yasna_notation::{
     Alternatives, Choice, Context, Either, Implicit, Message, Notation, Represents, SequenceOf,
     read_as,
@@ -73,6 +73,32 @@ impl Notation for RevocationInfoChoice {
         match value {
             RevocationInfoChoice::Crl(list) => <CertificateList as Notation>::write(list, writer),
             RevocationInfoChoice::Other(parts) => OtherFormat::write(parts, writer),
+        }
+    }
+
+    fn prepend(
+        value: &RevocationInfoChoice,
+        under: Option<Tag>,
+        out: &mut PrependBuffer,
+    ) -> ASN1Result<()> {
+        match value {
+            RevocationInfoChoice::Crl(list) => <CertificateList as Notation>::prepend(
+                list, under, out,
+            ),
+            RevocationInfoChoice::Other(parts) => OtherFormat::prepend(parts, under, out),
+        }
+    }
+
+    fn encoded_len(
+        value: &RevocationInfoChoice,
+        under: Option<Tag>,
+        mode: BERMode,
+    ) -> Option<usize> {
+        match value {
+            RevocationInfoChoice::Crl(list) => <CertificateList as Notation>::encoded_len(
+                list, under, mode,
+            ),
+            RevocationInfoChoice::Other(parts) => OtherFormat::encoded_len(parts, under, mode),
         }
     }
 

@@ -38,7 +38,7 @@ use crate::revocation_info_choice::RevocationInfoChoice;
 use crate::signer_info::SignerInfo;
 use x509::AlgorithmIdentifier;
 use yasna::tags::TAG_SEQUENCE;
-use yasna::{ASN1Result, BERReader, DERWriter, Tag};
+use yasna::{ASN1Result, BERMode, BERReader, DERWriter, PrependBuffer, Tag};
 use yasna_notation::{
     AtMost, Bounded, Context, Implicit, Message, Notation, Optional, Represents, Sequence, SetOf,
     read_as,
@@ -129,6 +129,36 @@ impl Notation for SignedData {
                 (&value.digest_algorithms, (&value.encap_content_info, ends)),
             ),
             writer,
+        )
+    }
+
+    fn prepend(value: &SignedData, under: Option<Tag>, out: &mut PrependBuffer) -> ASN1Result<()> {
+        let ends = (
+            &value.certificates,
+            (&value.crls, (&value.signer_infos, ())),
+        );
+        Sequence::<Parts>::prepend_fields(
+            (
+                &value.version,
+                (&value.digest_algorithms, (&value.encap_content_info, ends)),
+            ),
+            under,
+            out,
+        )
+    }
+
+    fn encoded_len(value: &SignedData, under: Option<Tag>, mode: BERMode) -> Option<usize> {
+        let ends = (
+            &value.certificates,
+            (&value.crls, (&value.signer_infos, ())),
+        );
+        Sequence::<Parts>::fields_len(
+            (
+                &value.version,
+                (&value.digest_algorithms, (&value.encap_content_info, ends)),
+            ),
+            under,
+            mode,
         )
     }
 

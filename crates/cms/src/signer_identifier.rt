@@ -19,7 +19,7 @@ ghost use Rattle.yasna_notation.specs.declared.choices.Either.TheVariants.{First
 ghost use Rattle.cms.specs.declared.signer_identifier.SignerIdentifier.TheVariants.{IssuerAndSerialNumber as ByNumber, SubjectKeyIdentifier as ByKey};
 
 use crate::issuer_and_serial_number::IssuerAndSerialNumber;
-use yasna::{ASN1Result, BERReader, DERWriter, Tag};
+use yasna::{ASN1Result, BERMode, BERReader, DERWriter, PrependBuffer, Tag};
 use yasna_notation::{
     Alternatives, Choice, Context, Either, Implicit, Message, Notation, Represents, read_as,
 };
@@ -68,6 +68,28 @@ impl Notation for SignerIdentifier {
             SignerIdentifier::IssuerAndSerialNumber(certificate) =>
                 <IssuerAndSerialNumber as Notation>::write(certificate, writer),
             SignerIdentifier::SubjectKeyIdentifier(key) => KeyIdentifier::write(key, writer),
+        }
+    }
+
+    fn prepend(
+        value: &SignerIdentifier,
+        under: Option<Tag>,
+        out: &mut PrependBuffer,
+    ) -> ASN1Result<()> {
+        match value {
+            SignerIdentifier::IssuerAndSerialNumber(certificate) =>
+                <IssuerAndSerialNumber as Notation>::prepend(certificate, under, out),
+            SignerIdentifier::SubjectKeyIdentifier(key) => KeyIdentifier::prepend(key, under, out),
+        }
+    }
+
+    fn encoded_len(value: &SignerIdentifier, under: Option<Tag>, mode: BERMode) -> Option<usize> {
+        match value {
+            SignerIdentifier::IssuerAndSerialNumber(certificate) =>
+                <IssuerAndSerialNumber as Notation>::encoded_len(certificate, under, mode),
+            SignerIdentifier::SubjectKeyIdentifier(key) => KeyIdentifier::encoded_len(
+                key, under, mode,
+            ),
         }
     }
 

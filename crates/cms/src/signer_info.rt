@@ -34,7 +34,7 @@ use crate::attributes::Attributes;
 use crate::signer_identifier::SignerIdentifier;
 use x509::AlgorithmIdentifier;
 use yasna::tags::TAG_SEQUENCE;
-use yasna::{ASN1Result, BERReader, DERWriter, Tag};
+use yasna::{ASN1Result, BERMode, BERReader, DERWriter, PrependBuffer, Tag};
 use yasna_notation::{
     AtMost, Bounded, Context, Implicit, Message, Notation, Optional, Represents, Sequence, read_as,
 };
@@ -126,6 +126,42 @@ impl Notation for SignerInfo {
                 ),
             ),
             writer,
+        )
+    }
+
+    fn prepend(value: &SignerInfo, under: Option<Tag>, out: &mut PrependBuffer) -> ASN1Result<()> {
+        let ends = (
+            &value.signature_algorithm,
+            (&value.signature, (&value.unsigned_attrs, ())),
+        );
+        Sequence::<Parts>::prepend_fields(
+            (
+                &value.version,
+                (
+                    &value.sid,
+                    (&value.digest_algorithm, (&value.signed_attrs, ends)),
+                ),
+            ),
+            under,
+            out,
+        )
+    }
+
+    fn encoded_len(value: &SignerInfo, under: Option<Tag>, mode: BERMode) -> Option<usize> {
+        let ends = (
+            &value.signature_algorithm,
+            (&value.signature, (&value.unsigned_attrs, ())),
+        );
+        Sequence::<Parts>::fields_len(
+            (
+                &value.version,
+                (
+                    &value.sid,
+                    (&value.digest_algorithm, (&value.signed_attrs, ends)),
+                ),
+            ),
+            under,
+            mode,
         )
     }
 

@@ -24,7 +24,7 @@ ghost use Rattle.x509.specs.contracts.attribute.AttributeNotation.TheImpl.Laws.{
 
 use x509::{AlgorithmIdentifier, Attribute};
 use yasna::tags::TAG_SEQUENCE;
-use yasna::{ASN1Result, BERReader, DERWriter, Tag};
+use yasna::{ASN1Result, BERMode, BERReader, DERWriter, PrependBuffer, Tag};
 use yasna_notation::{
     AtMost, Bounded, Context, Implicit, Message, Notation, Optional, Represents, Sequence, SetOf,
     read_as,
@@ -93,6 +93,38 @@ impl Notation for PrivateKeyInfo {
                 ),
             ),
             writer,
+        )
+    }
+
+    fn prepend(
+        value: &PrivateKeyInfo,
+        under: Option<Tag>,
+        out: &mut PrependBuffer,
+    ) -> ASN1Result<()> {
+        Sequence::<Parts>::prepend_fields(
+            (
+                &value.version,
+                (
+                    &value.private_key_algorithm,
+                    (&value.private_key, (&value.attributes, ())),
+                ),
+            ),
+            under,
+            out,
+        )
+    }
+
+    fn encoded_len(value: &PrivateKeyInfo, under: Option<Tag>, mode: BERMode) -> Option<usize> {
+        Sequence::<Parts>::fields_len(
+            (
+                &value.version,
+                (
+                    &value.private_key_algorithm,
+                    (&value.private_key, (&value.attributes, ())),
+                ),
+            ),
+            under,
+            mode,
         )
     }
 

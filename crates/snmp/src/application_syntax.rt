@@ -34,7 +34,7 @@ ghost use Rattle.yasna_notation.specs.contracts.canonical.VecU8CanonicalNotation
 ghost use Rattle.yasna_notation.specs.declared.choices.Either.TheVariants.{First, Second};
 ghost use Rattle.snmp.specs.declared.application_syntax.ApplicationSyntax.TheVariants.{IpAddressValue, CounterValue, TimeTicksValue, ArbitraryValue, BigCounterValue, UnsignedIntegerValue};
 
-use yasna::{ASN1Result, BERReader, DERWriter, Tag};
+use yasna::{ASN1Result, BERMode, BERReader, DERWriter, PrependBuffer, Tag};
 use yasna_notation::Either::{First, Second};
 use yasna_notation::{
     Alternatives, Application, Bounded, CanonicalNotation, Choice, Either, Implicit, Message,
@@ -128,6 +128,56 @@ impl Notation for ApplicationSyntax {
             ),
             ApplicationSyntax::UnsignedIntegerValue(value) => <Unsigned32 as Notation>::write(
                 value, writer,
+            ),
+        }
+    }
+
+    fn prepend(
+        value: &ApplicationSyntax,
+        under: Option<Tag>,
+        out: &mut PrependBuffer,
+    ) -> ASN1Result<()> {
+        match value {
+            ApplicationSyntax::IpAddressValue(value) => <IpAddress as Notation>::prepend(
+                value, under, out,
+            ),
+            ApplicationSyntax::CounterValue(value) => <Counter32 as Notation>::prepend(
+                value, under, out,
+            ),
+            ApplicationSyntax::TimeTicksValue(value) => <TimeTicks as Notation>::prepend(
+                value, under, out,
+            ),
+            ApplicationSyntax::ArbitraryValue(value) => <Opaque as Notation>::prepend(
+                value, under, out,
+            ),
+            ApplicationSyntax::BigCounterValue(value) => <Counter64 as Notation>::prepend(
+                value, under, out,
+            ),
+            ApplicationSyntax::UnsignedIntegerValue(value) => <Unsigned32 as Notation>::prepend(
+                value, under, out,
+            ),
+        }
+    }
+
+    fn encoded_len(value: &ApplicationSyntax, under: Option<Tag>, mode: BERMode) -> Option<usize> {
+        match value {
+            ApplicationSyntax::IpAddressValue(value) => <IpAddress as Notation>::encoded_len(
+                value, under, mode,
+            ),
+            ApplicationSyntax::CounterValue(value) => <Counter32 as Notation>::encoded_len(
+                value, under, mode,
+            ),
+            ApplicationSyntax::TimeTicksValue(value) => <TimeTicks as Notation>::encoded_len(
+                value, under, mode,
+            ),
+            ApplicationSyntax::ArbitraryValue(value) => <Opaque as Notation>::encoded_len(
+                value, under, mode,
+            ),
+            ApplicationSyntax::BigCounterValue(value) => <Counter64 as Notation>::encoded_len(
+                value, under, mode,
+            ),
+            ApplicationSyntax::UnsignedIntegerValue(value) => <Unsigned32 as Notation>::encoded_len(
+                value, under, mode,
             ),
         }
     }

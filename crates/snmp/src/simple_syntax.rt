@@ -22,7 +22,7 @@ ghost use Rattle.yasna_notation.specs.declared.choices.Either.TheVariants.{First
 ghost use Rattle.snmp.specs.declared.simple_syntax.SimpleSyntax.TheVariants.{IntegerValue, StringValue, ObjectIdValue};
 
 use yasna::models::ObjectIdentifier;
-use yasna::{ASN1Result, BERReader, DERWriter, Tag};
+use yasna::{ASN1Result, BERMode, BERReader, DERWriter, PrependBuffer, Tag};
 use yasna_notation::Either::{First, Second};
 use yasna_notation::{
     Alternatives, Bounded, CanonicalNotation, Choice, Either, Message, Notation, Represents,
@@ -81,6 +81,34 @@ impl Notation for SimpleSyntax {
             SimpleSyntax::StringValue(value) => <StringNotation as Notation>::write(value, writer),
             SimpleSyntax::ObjectIdValue(value) => <ObjectIdentifier as Notation>::write(
                 value, writer,
+            ),
+        }
+    }
+
+    fn prepend(
+        value: &SimpleSyntax,
+        under: Option<Tag>,
+        out: &mut PrependBuffer,
+    ) -> ASN1Result<()> {
+        match value {
+            SimpleSyntax::IntegerValue(value) => <i32 as Notation>::prepend(value, under, out),
+            SimpleSyntax::StringValue(value) => <StringNotation as Notation>::prepend(
+                value, under, out,
+            ),
+            SimpleSyntax::ObjectIdValue(value) => <ObjectIdentifier as Notation>::prepend(
+                value, under, out,
+            ),
+        }
+    }
+
+    fn encoded_len(value: &SimpleSyntax, under: Option<Tag>, mode: BERMode) -> Option<usize> {
+        match value {
+            SimpleSyntax::IntegerValue(value) => <i32 as Notation>::encoded_len(value, under, mode),
+            SimpleSyntax::StringValue(value) => <StringNotation as Notation>::encoded_len(
+                value, under, mode,
+            ),
+            SimpleSyntax::ObjectIdValue(value) => <ObjectIdentifier as Notation>::encoded_len(
+                value, under, mode,
             ),
         }
     }

@@ -15,7 +15,7 @@ ghost use Rattle.yasna_notation.specs.contracts.any.TaggedDerValueNotation.TheIm
 
 use yasna::models::{ObjectIdentifier, TaggedDerValue};
 use yasna::tags::TAG_SEQUENCE;
-use yasna::{ASN1Result, BERReader, DERWriter, Tag};
+use yasna::{ASN1Result, BERMode, BERReader, DERWriter, PrependBuffer, Tag};
 use yasna_notation::{Last, Message, Notation, Represents, Sequence, read_as};
 
 type Parts = (ObjectIdentifier, Last<TaggedDerValue>);
@@ -57,6 +57,22 @@ impl Notation for AlgorithmIdentifier {
 
     fn write(value: &AlgorithmIdentifier, writer: DERWriter<'_>) -> ASN1Result<()> {
         Sequence::<Parts>::write_fields((&value.algorithm, &value.parameters), writer)
+    }
+
+    fn prepend(
+        value: &AlgorithmIdentifier,
+        under: Option<Tag>,
+        out: &mut PrependBuffer,
+    ) -> ASN1Result<()> {
+        Sequence::<Parts>::prepend_fields((&value.algorithm, &value.parameters), under, out)
+    }
+
+    fn encoded_len(
+        value: &AlgorithmIdentifier,
+        under: Option<Tag>,
+        mode: BERMode,
+    ) -> Option<usize> {
+        Sequence::<Parts>::fields_len((&value.algorithm, &value.parameters), under, mode)
     }
 
     ghost lawful = { λ _. represented_lawful ⟦<AlgorithmIdentifier as Represents<Fields>>⟧.value_of (in_sequence

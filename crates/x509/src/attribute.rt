@@ -15,7 +15,7 @@ ghost use Rattle.yasna_notation.specs.contracts.any.TaggedDerValueNotation.TheIm
 
 use yasna::models::{ObjectIdentifier, TaggedDerValue};
 use yasna::tags::TAG_SEQUENCE;
-use yasna::{ASN1Result, BERReader, DERWriter, Tag};
+use yasna::{ASN1Result, BERMode, BERReader, DERWriter, PrependBuffer, Tag};
 use yasna_notation::{Message, Notation, Represents, Sequence, SetOf, read_as};
 
 type Parts = (ObjectIdentifier, (SetOf<TaggedDerValue>, ()));
@@ -57,6 +57,14 @@ impl Notation for Attribute {
 
     fn write(value: &Attribute, writer: DERWriter<'_>) -> ASN1Result<()> {
         Sequence::<Parts>::write_fields((&value.attribute_type, (&value.values, ())), writer)
+    }
+
+    fn prepend(value: &Attribute, under: Option<Tag>, out: &mut PrependBuffer) -> ASN1Result<()> {
+        Sequence::<Parts>::prepend_fields((&value.attribute_type, (&value.values, ())), under, out)
+    }
+
+    fn encoded_len(value: &Attribute, under: Option<Tag>, mode: BERMode) -> Option<usize> {
+        Sequence::<Parts>::fields_len((&value.attribute_type, (&value.values, ())), under, mode)
     }
 
     ghost lawful = { λ _. represented_lawful ⟦<Attribute as Represents<Fields>>⟧.value_of (in_sequence (part (oid refl).own

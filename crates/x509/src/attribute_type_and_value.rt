@@ -15,7 +15,7 @@ ghost use Rattle.yasna_notation.specs.contracts.simple.ObjectIdentifierNotation.
 
 use yasna::models::{ObjectIdentifier, TaggedDerValue};
 use yasna::tags::TAG_SEQUENCE;
-use yasna::{ASN1Result, BERReader, DERWriter, Tag};
+use yasna::{ASN1Result, BERMode, BERReader, DERWriter, PrependBuffer, Tag};
 use yasna_notation::{Message, Notation, Represents, Sequence, read_as};
 
 type Parts = (ObjectIdentifier, (TaggedDerValue, ()));
@@ -57,6 +57,22 @@ impl Notation for AttributeTypeAndValue {
 
     fn write(value: &AttributeTypeAndValue, writer: DERWriter<'_>) -> ASN1Result<()> {
         Sequence::<Parts>::write_fields((&value.attribute_type, (&value.value, ())), writer)
+    }
+
+    fn prepend(
+        value: &AttributeTypeAndValue,
+        under: Option<Tag>,
+        out: &mut PrependBuffer,
+    ) -> ASN1Result<()> {
+        Sequence::<Parts>::prepend_fields((&value.attribute_type, (&value.value, ())), under, out)
+    }
+
+    fn encoded_len(
+        value: &AttributeTypeAndValue,
+        under: Option<Tag>,
+        mode: BERMode,
+    ) -> Option<usize> {
+        Sequence::<Parts>::fields_len((&value.attribute_type, (&value.value, ())), under, mode)
     }
 
     ghost lawful = { λ _. represented_lawful ⟦<AttributeTypeAndValue as Represents<Fields>>⟧.value_of

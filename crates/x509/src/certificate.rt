@@ -18,7 +18,7 @@ ghost use Rattle.x509.specs.contracts.tbs_certificate.TbsCertificateNotation.The
 use crate::algorithm::AlgorithmIdentifier;
 use crate::tbs_certificate::TbsCertificate;
 use yasna::tags::TAG_SEQUENCE;
-use yasna::{ASN1Result, BERReader, DERWriter, Tag};
+use yasna::{ASN1Result, BERMode, BERReader, DERWriter, PrependBuffer, Tag};
 use yasna_notation::{BitString, Message, Notation, Represents, Sequence};
 
 type Parts = (TbsCertificate, (AlgorithmIdentifier, (BitString, ())));
@@ -78,6 +78,28 @@ impl Notation for Certificate {
                 (&value.signature_algorithm, (&value.signature_value, ())),
             ),
             writer,
+        )
+    }
+
+    fn prepend(value: &Certificate, under: Option<Tag>, out: &mut PrependBuffer) -> ASN1Result<()> {
+        Sequence::<Parts>::prepend_fields(
+            (
+                &value.tbs_certificate,
+                (&value.signature_algorithm, (&value.signature_value, ())),
+            ),
+            under,
+            out,
+        )
+    }
+
+    fn encoded_len(value: &Certificate, under: Option<Tag>, mode: BERMode) -> Option<usize> {
+        Sequence::<Parts>::fields_len(
+            (
+                &value.tbs_certificate,
+                (&value.signature_algorithm, (&value.signature_value, ())),
+            ),
+            under,
+            mode,
         )
     }
 

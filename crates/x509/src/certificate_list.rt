@@ -18,7 +18,7 @@ ghost use Rattle.x509.specs.contracts.tbs_cert_list.TbsCertListNotation.TheImpl.
 use crate::algorithm::AlgorithmIdentifier;
 use crate::tbs_cert_list::TbsCertList;
 use yasna::tags::TAG_SEQUENCE;
-use yasna::{ASN1Result, BERReader, DERWriter, Tag};
+use yasna::{ASN1Result, BERMode, BERReader, DERWriter, PrependBuffer, Tag};
 use yasna_notation::{BitString, Message, Notation, Represents, Sequence, read_as};
 
 type Parts = (TbsCertList, (AlgorithmIdentifier, (BitString, ())));
@@ -70,6 +70,32 @@ impl Notation for CertificateList {
                 (&value.signature_algorithm, (&value.signature_value, ())),
             ),
             writer,
+        )
+    }
+
+    fn prepend(
+        value: &CertificateList,
+        under: Option<Tag>,
+        out: &mut PrependBuffer,
+    ) -> ASN1Result<()> {
+        Sequence::<Parts>::prepend_fields(
+            (
+                &value.tbs_cert_list,
+                (&value.signature_algorithm, (&value.signature_value, ())),
+            ),
+            under,
+            out,
+        )
+    }
+
+    fn encoded_len(value: &CertificateList, under: Option<Tag>, mode: BERMode) -> Option<usize> {
+        Sequence::<Parts>::fields_len(
+            (
+                &value.tbs_cert_list,
+                (&value.signature_algorithm, (&value.signature_value, ())),
+            ),
+            under,
+            mode,
         )
     }
 

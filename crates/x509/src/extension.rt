@@ -9,7 +9,7 @@
 ghost use Rattle.std.specs.Prelude.{◌≡◌, refl};
 
 use yasna::models::ObjectIdentifier;
-use yasna::{ASN1Result, DERWriter};
+use yasna::{ASN1Result, BERMode, DERWriter, PrependBuffer, Tag};
 use yasna_notation::{Default, DefinedType, False, Sequence};
 
 type Parts = (ObjectIdentifier, (Default<bool, False>, (Vec<u8>, ())));
@@ -41,6 +41,22 @@ impl DefinedType for Extension {
         Sequence::<Parts>::write_fields(
             (&self.extn_id, (&self.critical, (&self.extn_value, ()))),
             writer,
+        )
+    }
+
+    fn prepend_value(&self, under: Option<Tag>, out: &mut PrependBuffer) -> ASN1Result<()> {
+        Sequence::<Parts>::prepend_fields(
+            (&self.extn_id, (&self.critical, (&self.extn_value, ()))),
+            under,
+            out,
+        )
+    }
+
+    fn value_len(&self, under: Option<Tag>, mode: BERMode) -> Option<usize> {
+        Sequence::<Parts>::fields_len(
+            (&self.extn_id, (&self.critical, (&self.extn_value, ()))),
+            under,
+            mode,
         )
     }
 

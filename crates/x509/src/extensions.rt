@@ -14,7 +14,7 @@ ghost use Rattle.yasna_notation.specs.contracts.strings.VecU8Notation.TheImpl.La
 
 use crate::extension::Extension;
 use yasna::tags::TAG_SEQUENCE;
-use yasna::{ASN1Result, BERReader, DERWriter, Tag};
+use yasna::{ASN1Result, BERMode, BERReader, DERWriter, PrependBuffer, Tag};
 use yasna_notation::{
     Bounded, DefinedType, Message, NotEmpty, Notation, Represents, SequenceOf, read_as,
 };
@@ -53,6 +53,14 @@ impl Notation for Extensions {
 
     fn write(value: &Extensions, writer: DERWriter<'_>) -> ASN1Result<()> {
         <List as Notation>::write(&value.extensions, writer)
+    }
+
+    fn prepend(value: &Extensions, under: Option<Tag>, out: &mut PrependBuffer) -> ASN1Result<()> {
+        <List as Notation>::prepend(&value.extensions, under, out)
+    }
+
+    fn encoded_len(value: &Extensions, under: Option<Tag>, mode: BERMode) -> Option<usize> {
+        <List as Notation>::encoded_len(&value.extensions, under, mode)
     }
 
     ghost lawful = { λ _. represented_lawful ⟦<Extensions as Represents<Vec<Extension>>>⟧.value_of

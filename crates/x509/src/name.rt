@@ -14,7 +14,7 @@ ghost use Rattle.x509.specs.declared.name.Name.TheVariants.{RdnSequence};
 
 use crate::relative_distinguished_name::RelativeDistinguishedName;
 use yasna::tags::TAG_SEQUENCE;
-use yasna::{ASN1Result, BERReader, DERWriter, Tag};
+use yasna::{ASN1Result, BERMode, BERReader, DERWriter, PrependBuffer, Tag};
 use yasna_notation::{Message, Notation, Represents, SequenceOf, read_as};
 
 /// A name: its parts, from the outermost level to the innermost.
@@ -51,6 +51,22 @@ impl Notation for Name {
         match value {
             Name::RdnSequence(parts) => {
                 <SequenceOf<RelativeDistinguishedName> as Notation>::write(parts, writer)
+            }
+        }
+    }
+
+    fn prepend(value: &Name, under: Option<Tag>, out: &mut PrependBuffer) -> ASN1Result<()> {
+        match value {
+            Name::RdnSequence(parts) => {
+                <SequenceOf<RelativeDistinguishedName> as Notation>::prepend(parts, under, out)
+            }
+        }
+    }
+
+    fn encoded_len(value: &Name, under: Option<Tag>, mode: BERMode) -> Option<usize> {
+        match value {
+            Name::RdnSequence(parts) => {
+                <SequenceOf<RelativeDistinguishedName> as Notation>::encoded_len(parts, under, mode)
             }
         }
     }

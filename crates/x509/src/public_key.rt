@@ -15,7 +15,7 @@ ghost use Rattle.x509.specs.contracts.algorithm.AlgorithmIdentifierNotation.TheI
 
 use crate::algorithm::AlgorithmIdentifier;
 use yasna::tags::TAG_SEQUENCE;
-use yasna::{ASN1Result, BERReader, DERWriter, Tag};
+use yasna::{ASN1Result, BERMode, BERReader, DERWriter, PrependBuffer, Tag};
 use yasna_notation::{BitString, Message, Notation, Represents, Sequence, read_as};
 
 type Parts = (AlgorithmIdentifier, (BitString, ()));
@@ -57,6 +57,30 @@ impl Notation for SubjectPublicKeyInfo {
 
     fn write(value: &SubjectPublicKeyInfo, writer: DERWriter<'_>) -> ASN1Result<()> {
         Sequence::<Parts>::write_fields((&value.algorithm, (&value.subject_public_key, ())), writer)
+    }
+
+    fn prepend(
+        value: &SubjectPublicKeyInfo,
+        under: Option<Tag>,
+        out: &mut PrependBuffer,
+    ) -> ASN1Result<()> {
+        Sequence::<Parts>::prepend_fields(
+            (&value.algorithm, (&value.subject_public_key, ())),
+            under,
+            out,
+        )
+    }
+
+    fn encoded_len(
+        value: &SubjectPublicKeyInfo,
+        under: Option<Tag>,
+        mode: BERMode,
+    ) -> Option<usize> {
+        Sequence::<Parts>::fields_len(
+            (&value.algorithm, (&value.subject_public_key, ())),
+            under,
+            mode,
+        )
     }
 
     ghost lawful = { λ _. represented_lawful ⟦<SubjectPublicKeyInfo as Represents<Fields>>⟧.value_of (in_sequence (part (algorithm refl).own

@@ -11,7 +11,7 @@ ghost use Rattle.x509.specs.contracts.attribute_type_and_value.AttributeTypeAndV
 
 use crate::attribute_type_and_value::AttributeTypeAndValue;
 use yasna::tags::TAG_SET;
-use yasna::{ASN1Result, BERReader, DERWriter, Tag};
+use yasna::{ASN1Result, BERMode, BERReader, DERWriter, PrependBuffer, Tag};
 use yasna_notation::{Bounded, Message, NotEmpty, Notation, Represents, SetOf, read_as};
 
 type Set = Bounded<SetOf<AttributeTypeAndValue>, NotEmpty>;
@@ -48,6 +48,22 @@ impl Notation for RelativeDistinguishedName {
 
     fn write(value: &RelativeDistinguishedName, writer: DERWriter<'_>) -> ASN1Result<()> {
         <Set as Notation>::write(&value.attributes, writer)
+    }
+
+    fn prepend(
+        value: &RelativeDistinguishedName,
+        under: Option<Tag>,
+        out: &mut PrependBuffer,
+    ) -> ASN1Result<()> {
+        <Set as Notation>::prepend(&value.attributes, under, out)
+    }
+
+    fn encoded_len(
+        value: &RelativeDistinguishedName,
+        under: Option<Tag>,
+        mode: BERMode,
+    ) -> Option<usize> {
+        <Set as Notation>::encoded_len(&value.attributes, under, mode)
     }
 
     ghost lawful = { λ _. represented_lawful ⟦<RelativeDistinguishedName as Represents<Vec<AttributeTypeAndValue>>>⟧.value_of

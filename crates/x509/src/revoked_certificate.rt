@@ -19,7 +19,7 @@ use crate::extensions::Extensions;
 use crate::time::Time;
 use crate::time_part::TimePart;
 use yasna::tags::TAG_SEQUENCE;
-use yasna::{ASN1Result, BERReader, DERWriter, Tag};
+use yasna::{ASN1Result, BERMode, BERReader, DERWriter, PrependBuffer, Tag};
 use yasna_notation::{BigInteger, Last, Message, Notation, Represents, Sequence, read_as};
 
 type Parts = (BigInteger, (TimePart, Last<Extensions>));
@@ -71,6 +71,32 @@ impl Notation for RevokedCertificate {
                 (&value.revocation_date, &value.crl_entry_extensions),
             ),
             writer,
+        )
+    }
+
+    fn prepend(
+        value: &RevokedCertificate,
+        under: Option<Tag>,
+        out: &mut PrependBuffer,
+    ) -> ASN1Result<()> {
+        Sequence::<Parts>::prepend_fields(
+            (
+                &value.user_certificate,
+                (&value.revocation_date, &value.crl_entry_extensions),
+            ),
+            under,
+            out,
+        )
+    }
+
+    fn encoded_len(value: &RevokedCertificate, under: Option<Tag>, mode: BERMode) -> Option<usize> {
+        Sequence::<Parts>::fields_len(
+            (
+                &value.user_certificate,
+                (&value.revocation_date, &value.crl_entry_extensions),
+            ),
+            under,
+            mode,
         )
     }
 

@@ -17,7 +17,7 @@ use crate::name::Name;
 use crate::public_key::SubjectPublicKeyInfo;
 use crate::tbs_certificate::TbsCertificate;
 use crate::validity::Validity;
-use yasna::{ASN1Result, BERReaderSeq, DERWriterSeq};
+use yasna::{ASN1Result, BERMode, BERReaderSeq, DERWriterSeq, PrependBuffer};
 use yasna_notation::{BitString, Context, Explicit, Implicit, Optional, Parts, PartsBy};
 
 type IssuerUniqueId = Optional<Implicit<Context<1>, BitString>>;
@@ -81,6 +81,16 @@ impl Parts for SubjectParts {
         <SubjectPartsList as Parts>::write_parts(values, seq)
     }
 
+    #[inline(always)]
+    fn prepend_parts(values: &SubjectFields, out: &mut PrependBuffer) -> ASN1Result<()> {
+        <SubjectPartsList as Parts>::prepend_parts(values, out)
+    }
+
+    #[inline(always)]
+    fn parts_len(values: &SubjectFields, mode: BERMode) -> Option<usize> {
+        <SubjectPartsList as Parts>::parts_len(values, mode)
+    }
+
     ghost laws = { λ _. part (validity refl).own (part (name refl).own (part (public_key refl).own
         (optional_part refl (in_implicit 1 (omega arith) (bits refl)).own
         (optional_part refl (in_implicit 2 (omega arith) (bits refl)).own
@@ -113,5 +123,43 @@ impl<'a> PartsBy<&'a TbsCertificate> for SubjectParts {
             ),
         );
         SubjectPartsList::write_each(&fields, seq)
+    }
+
+    #[inline(always)]
+    fn prepend_each(certificate: &&'a TbsCertificate, out: &mut PrependBuffer) -> ASN1Result<()> {
+        let ends = (
+            &certificate.issuer_unique_id,
+            (
+                &certificate.subject_unique_id,
+                (&certificate.extensions, ()),
+            ),
+        );
+        let fields = (
+            &certificate.validity,
+            (
+                &certificate.subject,
+                (&certificate.subject_public_key_info, ends),
+            ),
+        );
+        SubjectPartsList::prepend_each(&fields, out)
+    }
+
+    #[inline(always)]
+    fn each_len(certificate: &&'a TbsCertificate, mode: BERMode) -> Option<usize> {
+        let ends = (
+            &certificate.issuer_unique_id,
+            (
+                &certificate.subject_unique_id,
+                (&certificate.extensions, ()),
+            ),
+        );
+        let fields = (
+            &certificate.validity,
+            (
+                &certificate.subject,
+                (&certificate.subject_public_key_info, ends),
+            ),
+        );
+        SubjectPartsList::each_len(&fields, mode)
     }
 }

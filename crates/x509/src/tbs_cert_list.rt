@@ -30,7 +30,7 @@ use crate::revoked_certificate::RevokedCertificate;
 use crate::time::Time;
 use crate::time_part::TimePart;
 use yasna::tags::TAG_SEQUENCE;
-use yasna::{ASN1Result, BERReader, DERWriter, Tag};
+use yasna::{ASN1Result, BERMode, BERReader, DERWriter, PrependBuffer, Tag};
 use yasna_notation::{
     Bounded, Context, Exactly, Explicit, Message, Notation, Optional, Represents, Sequence,
     SequenceOf, read_as,
@@ -120,6 +120,42 @@ impl Notation for TbsCertList {
                 ),
             ),
             writer,
+        )
+    }
+
+    fn prepend(value: &TbsCertList, under: Option<Tag>, out: &mut PrependBuffer) -> ASN1Result<()> {
+        let ends = (
+            &value.next_update,
+            (&value.revoked_certificates, (&value.crl_extensions, ())),
+        );
+        Sequence::<Parts>::prepend_fields(
+            (
+                &value.version,
+                (
+                    &value.signature,
+                    (&value.issuer, (&value.this_update, ends)),
+                ),
+            ),
+            under,
+            out,
+        )
+    }
+
+    fn encoded_len(value: &TbsCertList, under: Option<Tag>, mode: BERMode) -> Option<usize> {
+        let ends = (
+            &value.next_update,
+            (&value.revoked_certificates, (&value.crl_extensions, ())),
+        );
+        Sequence::<Parts>::fields_len(
+            (
+                &value.version,
+                (
+                    &value.signature,
+                    (&value.issuer, (&value.this_update, ends)),
+                ),
+            ),
+            under,
+            mode,
         )
     }
 

@@ -38,7 +38,7 @@ use crate::public_key::SubjectPublicKeyInfo;
 use crate::subject_parts::{SubjectFields, SubjectParts};
 use crate::validity::Validity;
 use yasna::tags::TAG_SEQUENCE;
-use yasna::{ASN1Result, BERReader, DERWriter, Tag};
+use yasna::{ASN1Result, BERMode, BERReader, DERWriter, PrependBuffer, Tag};
 use yasna_notation::{
     AtMost, BigInteger, Bounded, Context, Default, Explicit, Message, Notation, Number, Represents,
     Sequence,
@@ -132,6 +132,38 @@ impl Notation for TbsCertificate {
                 ),
             ),
             writer,
+        )
+    }
+
+    fn prepend(
+        value: &TbsCertificate,
+        under: Option<Tag>,
+        out: &mut PrependBuffer,
+    ) -> ASN1Result<()> {
+        Sequence::<Parts>::prepend_fields(
+            (
+                &value.version,
+                (
+                    &value.serial_number,
+                    (&value.signature, (&value.issuer, value)),
+                ),
+            ),
+            under,
+            out,
+        )
+    }
+
+    fn encoded_len(value: &TbsCertificate, under: Option<Tag>, mode: BERMode) -> Option<usize> {
+        Sequence::<Parts>::fields_len(
+            (
+                &value.version,
+                (
+                    &value.serial_number,
+                    (&value.signature, (&value.issuer, value)),
+                ),
+            ),
+            under,
+            mode,
         )
     }
 

@@ -4,7 +4,7 @@ ghost use Rattle.yasna_notation.specs.declared.choices.Either.TheVariants.{First
 ghost use Rattle.x509.specs.declared.time.Time.TheVariants.{Utc, General};
 
 use yasna::models::{GeneralizedTime, UTCTime};
-use yasna::{ASN1Result, DERWriter};
+use yasna::{ASN1Result, BERMode, DERWriter, PrependBuffer, Tag};
 use yasna_notation::{Choice, DefinedType, Either, Notation, Sequence};
 
 /// A time.
@@ -30,6 +30,20 @@ impl DefinedType for Time {
         match self {
             Time::Utc(time) => <UTCTime as Notation>::write(time, writer),
             Time::General(time) => <GeneralizedTime as Notation>::write(time, writer),
+        }
+    }
+
+    fn prepend_value(&self, under: Option<Tag>, out: &mut PrependBuffer) -> ASN1Result<()> {
+        match self {
+            Time::Utc(time) => <UTCTime as Notation>::prepend(time, under, out),
+            Time::General(time) => <GeneralizedTime as Notation>::prepend(time, under, out),
+        }
+    }
+
+    fn value_len(&self, under: Option<Tag>, mode: BERMode) -> Option<usize> {
+        match self {
+            Time::Utc(time) => <UTCTime as Notation>::encoded_len(time, under, mode),
+            Time::General(time) => <GeneralizedTime as Notation>::encoded_len(time, under, mode),
         }
     }
 

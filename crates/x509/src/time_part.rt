@@ -9,7 +9,7 @@ ghost use Rattle.yasna_notation.specs.contracts.times.GeneralizedTimeNotation.Th
 
 use crate::time::Time;
 use yasna::models::{GeneralizedTime, UTCTime};
-use yasna::{ASN1Result, BERReader, DERWriter, Tag};
+use yasna::{ASN1Result, BERMode, BERReader, DERWriter, PrependBuffer, Tag};
 use yasna_notation::{Choice, DefinedType, Notation};
 
 /// The notation of a part whose value is a `Time`.
@@ -35,6 +35,16 @@ impl Notation for TimePart {
     #[inline(always)]
     fn write(value: &Time, writer: DERWriter<'_>) -> ASN1Result<()> {
         <Time as Notation>::write(value, writer)
+    }
+
+    #[inline(always)]
+    fn prepend(value: &Time, under: Option<Tag>, out: &mut PrependBuffer) -> ASN1Result<()> {
+        <Time as Notation>::prepend(value, under, out)
+    }
+
+    #[inline(always)]
+    fn encoded_len(value: &Time, under: Option<Tag>, mode: BERMode) -> Option<usize> {
+        <Time as Notation>::encoded_len(value, under, mode)
     }
 
     ghost lawful = { λ _. represented_lawful ⟦<Time as DefinedType>⟧.value_of

@@ -13,7 +13,7 @@ ghost use Rattle.x509.specs.contracts.time_part.TimePartNotation.TheImpl.Laws.{l
 use crate::time::Time;
 use crate::time_part::TimePart;
 use yasna::tags::TAG_SEQUENCE;
-use yasna::{ASN1Result, BERReader, DERWriter, Tag};
+use yasna::{ASN1Result, BERMode, BERReader, DERWriter, PrependBuffer, Tag};
 use yasna_notation::{Message, Notation, Represents, Sequence, read_as};
 
 type Parts = (TimePart, (TimePart, ()));
@@ -55,6 +55,14 @@ impl Notation for Validity {
 
     fn write(value: &Validity, writer: DERWriter<'_>) -> ASN1Result<()> {
         Sequence::<Parts>::write_fields((&value.not_before, (&value.not_after, ())), writer)
+    }
+
+    fn prepend(value: &Validity, under: Option<Tag>, out: &mut PrependBuffer) -> ASN1Result<()> {
+        Sequence::<Parts>::prepend_fields((&value.not_before, (&value.not_after, ())), under, out)
+    }
+
+    fn encoded_len(value: &Validity, under: Option<Tag>, mode: BERMode) -> Option<usize> {
+        Sequence::<Parts>::fields_len((&value.not_before, (&value.not_after, ())), under, mode)
     }
 
     ghost lawful = { λ _. represented_lawful ⟦<Validity as Represents<Fields>>⟧.value_of (in_sequence (part (time refl).own

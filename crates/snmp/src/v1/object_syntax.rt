@@ -40,7 +40,7 @@ ghost use Rattle.yasna_notation.specs.declared.choices.Either.TheVariants.{First
 ghost use Rattle.snmp.specs.declared.v1.object_syntax.ObjectSyntax.TheVariants.{Number, String, Object, Empty, Address, Counter, Gauge, Ticks, Arbitrary};
 
 use yasna::models::ObjectIdentifier;
-use yasna::{ASN1Result, BERReader, DERWriter, Tag};
+use yasna::{ASN1Result, BERMode, BERReader, DERWriter, PrependBuffer, Tag};
 use yasna_notation::Either::{First, Second};
 use yasna_notation::{
     Alternatives, Application, Bounded, CanonicalNotation, Choice, Either, Implicit, Message,
@@ -155,6 +155,46 @@ impl Notation for ObjectSyntax {
             ObjectSyntax::Gauge(value) => <Gauge as Notation>::write(value, writer),
             ObjectSyntax::Ticks(value) => <TimeTicks as Notation>::write(value, writer),
             ObjectSyntax::Arbitrary(value) => <Opaque as Notation>::write(value, writer),
+        }
+    }
+
+    fn prepend(
+        value: &ObjectSyntax,
+        under: Option<Tag>,
+        out: &mut PrependBuffer,
+    ) -> ASN1Result<()> {
+        match value {
+            ObjectSyntax::Number(value) => <i64 as Notation>::prepend(value, under, out),
+            ObjectSyntax::String(value) => <Vec<u8> as Notation>::prepend(value, under, out),
+            ObjectSyntax::Object(value) => <ObjectIdentifier as Notation>::prepend(
+                value, under, out,
+            ),
+            ObjectSyntax::Empty => <() as Notation>::prepend(&(), under, out),
+            ObjectSyntax::Address(value) => <NetworkAddress as Notation>::prepend(
+                value, under, out,
+            ),
+            ObjectSyntax::Counter(value) => <Counter as Notation>::prepend(value, under, out),
+            ObjectSyntax::Gauge(value) => <Gauge as Notation>::prepend(value, under, out),
+            ObjectSyntax::Ticks(value) => <TimeTicks as Notation>::prepend(value, under, out),
+            ObjectSyntax::Arbitrary(value) => <Opaque as Notation>::prepend(value, under, out),
+        }
+    }
+
+    fn encoded_len(value: &ObjectSyntax, under: Option<Tag>, mode: BERMode) -> Option<usize> {
+        match value {
+            ObjectSyntax::Number(value) => <i64 as Notation>::encoded_len(value, under, mode),
+            ObjectSyntax::String(value) => <Vec<u8> as Notation>::encoded_len(value, under, mode),
+            ObjectSyntax::Object(value) => <ObjectIdentifier as Notation>::encoded_len(
+                value, under, mode,
+            ),
+            ObjectSyntax::Empty => <() as Notation>::encoded_len(&(), under, mode),
+            ObjectSyntax::Address(value) => <NetworkAddress as Notation>::encoded_len(
+                value, under, mode,
+            ),
+            ObjectSyntax::Counter(value) => <Counter as Notation>::encoded_len(value, under, mode),
+            ObjectSyntax::Gauge(value) => <Gauge as Notation>::encoded_len(value, under, mode),
+            ObjectSyntax::Ticks(value) => <TimeTicks as Notation>::encoded_len(value, under, mode),
+            ObjectSyntax::Arbitrary(value) => <Opaque as Notation>::encoded_len(value, under, mode),
         }
     }
 

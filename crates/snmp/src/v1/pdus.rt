@@ -25,7 +25,7 @@ ghost use Rattle.snmp.specs.declared.v1.pdus.Pdus.TheVariants.{GetRequest, GetNe
 
 use crate::v1::pdu::Pdu;
 use crate::v1::trap_pdu::TrapPdu;
-use yasna::{ASN1Result, BERReader, DERWriter, Tag};
+use yasna::{ASN1Result, BERMode, BERReader, DERWriter, PrependBuffer, Tag};
 use yasna_notation::Either::{First, Second};
 use yasna_notation::{
     Alternatives, CanonicalNotation, Choice, Context, Either, Implicit, Message, Notation,
@@ -104,6 +104,32 @@ impl Notation for Pdus {
             Pdus::GetResponse(value) => <GetResponsePdu as Notation>::write(value, writer),
             Pdus::SetRequest(value) => <SetRequestPdu as Notation>::write(value, writer),
             Pdus::Trap(value) => <Trap as Notation>::write(value, writer),
+        }
+    }
+
+    fn prepend(value: &Pdus, under: Option<Tag>, out: &mut PrependBuffer) -> ASN1Result<()> {
+        match value {
+            Pdus::GetRequest(value) => <GetRequestPdu as Notation>::prepend(value, under, out),
+            Pdus::GetNextRequest(value) => <GetNextRequestPdu as Notation>::prepend(
+                value, under, out,
+            ),
+            Pdus::GetResponse(value) => <GetResponsePdu as Notation>::prepend(value, under, out),
+            Pdus::SetRequest(value) => <SetRequestPdu as Notation>::prepend(value, under, out),
+            Pdus::Trap(value) => <Trap as Notation>::prepend(value, under, out),
+        }
+    }
+
+    fn encoded_len(value: &Pdus, under: Option<Tag>, mode: BERMode) -> Option<usize> {
+        match value {
+            Pdus::GetRequest(value) => <GetRequestPdu as Notation>::encoded_len(value, under, mode),
+            Pdus::GetNextRequest(value) => <GetNextRequestPdu as Notation>::encoded_len(
+                value, under, mode,
+            ),
+            Pdus::GetResponse(value) => <GetResponsePdu as Notation>::encoded_len(
+                value, under, mode,
+            ),
+            Pdus::SetRequest(value) => <SetRequestPdu as Notation>::encoded_len(value, under, mode),
+            Pdus::Trap(value) => <Trap as Notation>::encoded_len(value, under, mode),
         }
     }
 

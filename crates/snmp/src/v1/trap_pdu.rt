@@ -31,7 +31,7 @@ ghost use Rattle.yasna_notation.specs.contracts.canonical.ObjectIdentifierCanoni
 use crate::v1::var_bind::VarBind;
 use yasna::models::ObjectIdentifier;
 use yasna::tags::TAG_SEQUENCE;
-use yasna::{ASN1Result, BERReader, DERWriter, Tag};
+use yasna::{ASN1Result, BERMode, BERReader, DERWriter, PrependBuffer, Tag};
 use yasna_notation::{
     Application, Bounded, CanonicalNotation, Implicit, Message, Notation, Represents, Sequence,
     SequenceOf, Size, read_as,
@@ -112,6 +112,36 @@ impl Notation for TrapPdu {
                 (&value.agent_addr, (&value.generic_trap, ends)),
             ),
             writer,
+        )
+    }
+
+    fn prepend(value: &TrapPdu, under: Option<Tag>, out: &mut PrependBuffer) -> ASN1Result<()> {
+        let ends = (
+            &value.specific_trap,
+            (&value.time_stamp, (&value.variable_bindings, ())),
+        );
+        Sequence::<Parts>::prepend_fields(
+            (
+                &value.enterprise,
+                (&value.agent_addr, (&value.generic_trap, ends)),
+            ),
+            under,
+            out,
+        )
+    }
+
+    fn encoded_len(value: &TrapPdu, under: Option<Tag>, mode: BERMode) -> Option<usize> {
+        let ends = (
+            &value.specific_trap,
+            (&value.time_stamp, (&value.variable_bindings, ())),
+        );
+        Sequence::<Parts>::fields_len(
+            (
+                &value.enterprise,
+                (&value.agent_addr, (&value.generic_trap, ends)),
+            ),
+            under,
+            mode,
         )
     }
 

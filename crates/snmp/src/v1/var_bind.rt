@@ -20,7 +20,7 @@ ghost use Rattle.yasna_notation.specs.contracts.canonical.ObjectIdentifierCanoni
 use crate::v1::object_syntax::ObjectSyntax;
 use yasna::models::ObjectIdentifier;
 use yasna::tags::TAG_SEQUENCE;
-use yasna::{ASN1Result, BERReader, DERWriter, Tag};
+use yasna::{ASN1Result, BERMode, BERReader, DERWriter, PrependBuffer, Tag};
 use yasna_notation::{CanonicalNotation, Message, Notation, Represents, Sequence, read_as};
 
 type Parts = (ObjectIdentifier, (ObjectSyntax, ()));
@@ -59,6 +59,14 @@ impl Notation for VarBind {
 
     fn write(value: &VarBind, writer: DERWriter<'_>) -> ASN1Result<()> {
         Sequence::<Parts>::write_fields((&value.name, (&value.value, ())), writer)
+    }
+
+    fn prepend(value: &VarBind, under: Option<Tag>, out: &mut PrependBuffer) -> ASN1Result<()> {
+        Sequence::<Parts>::prepend_fields((&value.name, (&value.value, ())), under, out)
+    }
+
+    fn encoded_len(value: &VarBind, under: Option<Tag>, mode: BERMode) -> Option<usize> {
+        Sequence::<Parts>::fields_len((&value.name, (&value.value, ())), under, mode)
     }
 
     ghost lawful = { λ _. represented_lawful ⟦<VarBind as Represents<Fields>>⟧.value_of (in_sequence

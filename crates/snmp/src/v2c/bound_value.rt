@@ -31,7 +31,7 @@ ghost use Rattle.snmp.specs.declared.v2c.bound_value.BoundValue.TheVariants.{Sim
 
 use crate::application_syntax::ApplicationSyntax;
 use crate::simple_syntax::SimpleSyntax;
-use yasna::{ASN1Result, BERReader, DERWriter, Tag};
+use yasna::{ASN1Result, BERMode, BERReader, DERWriter, PrependBuffer, Tag};
 use yasna_notation::Either::{First, Second};
 use yasna_notation::{
     Alternatives, CanonicalNotation, Choice, Context, Either, Implicit, Message, Notation,
@@ -116,6 +116,38 @@ impl Notation for BoundValue {
             BoundValue::NoSuchObject => <NoSuchObject as Notation>::write(&(), writer),
             BoundValue::NoSuchInstance => <NoSuchInstance as Notation>::write(&(), writer),
             BoundValue::EndOfMibView => <EndOfMibView as Notation>::write(&(), writer),
+        }
+    }
+
+    fn prepend(value: &BoundValue, under: Option<Tag>, out: &mut PrependBuffer) -> ASN1Result<()> {
+        match value {
+            BoundValue::Simple(value) => <SimpleSyntax as Notation>::prepend(value, under, out),
+            BoundValue::ApplicationWide(value) => <ApplicationSyntax as Notation>::prepend(
+                value, under, out,
+            ),
+            BoundValue::Unspecified => <() as Notation>::prepend(&(), under, out),
+            BoundValue::NoSuchObject => <NoSuchObject as Notation>::prepend(&(), under, out),
+            BoundValue::NoSuchInstance => <NoSuchInstance as Notation>::prepend(&(), under, out),
+            BoundValue::EndOfMibView => <EndOfMibView as Notation>::prepend(&(), under, out),
+        }
+    }
+
+    fn encoded_len(value: &BoundValue, under: Option<Tag>, mode: BERMode) -> Option<usize> {
+        match value {
+            BoundValue::Simple(value) => <SimpleSyntax as Notation>::encoded_len(
+                value, under, mode,
+            ),
+            BoundValue::ApplicationWide(value) => <ApplicationSyntax as Notation>::encoded_len(
+                value, under, mode,
+            ),
+            BoundValue::Unspecified => <() as Notation>::encoded_len(&(), under, mode),
+            BoundValue::NoSuchObject => <NoSuchObject as Notation>::encoded_len(&(), under, mode),
+            BoundValue::NoSuchInstance => <NoSuchInstance as Notation>::encoded_len(
+                &(),
+                under,
+                mode,
+            ),
+            BoundValue::EndOfMibView => <EndOfMibView as Notation>::encoded_len(&(), under, mode),
         }
     }
 

@@ -25,7 +25,7 @@ ghost use Rattle.yasna_notation.specs.contracts.canonical.I32CanonicalNotation.T
 
 use crate::v2c::var_bind::VarBind;
 use yasna::tags::TAG_SEQUENCE;
-use yasna::{ASN1Result, BERReader, DERWriter, Tag};
+use yasna::{ASN1Result, BERMode, BERReader, DERWriter, PrependBuffer, Tag};
 use yasna_notation::{
     AtMost, Bounded, CanonicalNotation, Message, Notation, Represents, Sequence, SequenceOf,
     SizeAtMost, read_as,
@@ -93,6 +93,34 @@ impl Notation for BulkPdu {
                 ),
             ),
             writer,
+        )
+    }
+
+    fn prepend(value: &BulkPdu, under: Option<Tag>, out: &mut PrependBuffer) -> ASN1Result<()> {
+        Sequence::<Parts>::prepend_fields(
+            (
+                &value.request_id,
+                (
+                    &value.non_repeaters,
+                    (&value.max_repetitions, (&value.variable_bindings, ())),
+                ),
+            ),
+            under,
+            out,
+        )
+    }
+
+    fn encoded_len(value: &BulkPdu, under: Option<Tag>, mode: BERMode) -> Option<usize> {
+        Sequence::<Parts>::fields_len(
+            (
+                &value.request_id,
+                (
+                    &value.non_repeaters,
+                    (&value.max_repetitions, (&value.variable_bindings, ())),
+                ),
+            ),
+            under,
+            mode,
         )
     }
 

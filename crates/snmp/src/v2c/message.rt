@@ -24,7 +24,7 @@ ghost use Rattle.snmp.specs.contracts.v2c.pdus.PdusCanonicalNotation.TheImpl.Law
 
 use crate::v2c::pdus::Pdus;
 use yasna::tags::TAG_SEQUENCE;
-use yasna::{ASN1Result, BERReader, DERWriter, Tag};
+use yasna::{ASN1Result, BERMode, BERReader, DERWriter, PrependBuffer, Tag};
 use yasna_notation::{
     Bounded, CanonicalNotation, Exactly, Message, Notation, Represents, Sequence, read_as,
 };
@@ -75,6 +75,22 @@ impl Notation for SnmpMessage {
         Sequence::<Parts>::write_fields(
             (&value.version, (&value.community, (&value.data, ()))),
             writer,
+        )
+    }
+
+    fn prepend(value: &SnmpMessage, under: Option<Tag>, out: &mut PrependBuffer) -> ASN1Result<()> {
+        Sequence::<Parts>::prepend_fields(
+            (&value.version, (&value.community, (&value.data, ()))),
+            under,
+            out,
+        )
+    }
+
+    fn encoded_len(value: &SnmpMessage, under: Option<Tag>, mode: BERMode) -> Option<usize> {
+        Sequence::<Parts>::fields_len(
+            (&value.version, (&value.community, (&value.data, ()))),
+            under,
+            mode,
         )
     }
 

@@ -29,7 +29,7 @@ ghost use Rattle.yasna_notation.specs.contracts.canonical.I32CanonicalNotation.T
 
 use crate::v2c::var_bind::VarBind;
 use yasna::tags::TAG_SEQUENCE;
-use yasna::{ASN1Result, BERReader, DERWriter, Tag};
+use yasna::{ASN1Result, BERMode, BERReader, DERWriter, PrependBuffer, Tag};
 use yasna_notation::{
     AtMost, Bounded, CanonicalNotation, Message, Notation, Represents, Sequence, SequenceOf,
     SizeAtMost, read_as,
@@ -95,6 +95,34 @@ impl Notation for Pdu {
                 ),
             ),
             writer,
+        )
+    }
+
+    fn prepend(value: &Pdu, under: Option<Tag>, out: &mut PrependBuffer) -> ASN1Result<()> {
+        Sequence::<Parts>::prepend_fields(
+            (
+                &value.request_id,
+                (
+                    &value.error_status,
+                    (&value.error_index, (&value.variable_bindings, ())),
+                ),
+            ),
+            under,
+            out,
+        )
+    }
+
+    fn encoded_len(value: &Pdu, under: Option<Tag>, mode: BERMode) -> Option<usize> {
+        Sequence::<Parts>::fields_len(
+            (
+                &value.request_id,
+                (
+                    &value.error_status,
+                    (&value.error_index, (&value.variable_bindings, ())),
+                ),
+            ),
+            under,
+            mode,
         )
     }
 

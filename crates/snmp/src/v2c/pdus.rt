@@ -28,7 +28,7 @@ ghost use Rattle.snmp.specs.declared.v2c.pdus.Pdus.TheVariants.{GetRequest, GetN
 
 use crate::v2c::bulk_pdu::BulkPdu;
 use crate::v2c::pdu::Pdu;
-use yasna::{ASN1Result, BERReader, DERWriter, Tag};
+use yasna::{ASN1Result, BERMode, BERReader, DERWriter, PrependBuffer, Tag};
 use yasna_notation::Either::{First, Second};
 use yasna_notation::{
     Alternatives, CanonicalNotation, Choice, Context, Either, Implicit, Message, Notation,
@@ -137,6 +137,44 @@ impl Notation for Pdus {
             Pdus::InformRequest(value) => <InformRequestPdu as Notation>::write(value, writer),
             Pdus::SnmpV2Trap(value) => <SnmpV2TrapPdu as Notation>::write(value, writer),
             Pdus::Report(value) => <ReportPdu as Notation>::write(value, writer),
+        }
+    }
+
+    fn prepend(value: &Pdus, under: Option<Tag>, out: &mut PrependBuffer) -> ASN1Result<()> {
+        match value {
+            Pdus::GetRequest(value) => <GetRequestPdu as Notation>::prepend(value, under, out),
+            Pdus::GetNextRequest(value) => <GetNextRequestPdu as Notation>::prepend(
+                value, under, out,
+            ),
+            Pdus::GetBulkRequest(value) => <GetBulkRequestPdu as Notation>::prepend(
+                value, under, out,
+            ),
+            Pdus::Response(value) => <ResponsePdu as Notation>::prepend(value, under, out),
+            Pdus::SetRequest(value) => <SetRequestPdu as Notation>::prepend(value, under, out),
+            Pdus::InformRequest(value) => <InformRequestPdu as Notation>::prepend(
+                value, under, out,
+            ),
+            Pdus::SnmpV2Trap(value) => <SnmpV2TrapPdu as Notation>::prepend(value, under, out),
+            Pdus::Report(value) => <ReportPdu as Notation>::prepend(value, under, out),
+        }
+    }
+
+    fn encoded_len(value: &Pdus, under: Option<Tag>, mode: BERMode) -> Option<usize> {
+        match value {
+            Pdus::GetRequest(value) => <GetRequestPdu as Notation>::encoded_len(value, under, mode),
+            Pdus::GetNextRequest(value) => <GetNextRequestPdu as Notation>::encoded_len(
+                value, under, mode,
+            ),
+            Pdus::GetBulkRequest(value) => <GetBulkRequestPdu as Notation>::encoded_len(
+                value, under, mode,
+            ),
+            Pdus::Response(value) => <ResponsePdu as Notation>::encoded_len(value, under, mode),
+            Pdus::SetRequest(value) => <SetRequestPdu as Notation>::encoded_len(value, under, mode),
+            Pdus::InformRequest(value) => <InformRequestPdu as Notation>::encoded_len(
+                value, under, mode,
+            ),
+            Pdus::SnmpV2Trap(value) => <SnmpV2TrapPdu as Notation>::encoded_len(value, under, mode),
+            Pdus::Report(value) => <ReportPdu as Notation>::encoded_len(value, under, mode),
         }
     }
 

@@ -1,0 +1,7 @@
+use Rattle.x509.proofs.tbs_cert_list.TbsCertListNotation.encoded_len.Goals as goal
+
+pub fields_len-requires-clause-can : goal.fields_len-requires-clause-can
+fields_len-requires-clause-can c = c.requires
+
+pub returns : goal.returns
+returns c = c.fields_len.ensures

@@ -1,0 +1,7 @@
+use Rattle.x509.proofs.tbs_cert_list.TbsCertListNotation.prepend.Goals as goal
+
+pub prepend_fields-requires-clause-can : goal.prepend_fields-requires-clause-can
+prepend_fields-requires-clause-can c = c.requires
+
+pub returns : goal.returns
+returns c = c.prepend_fields.ensures
