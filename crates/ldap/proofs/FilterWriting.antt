@@ -1,7 +1,11 @@
 -- What can be written of a filter, how deep it is, and its encoding, by what it is made of.
-use Rattle.std.proofs.Common.{◌≡◌, Vec, Box, Result, sym, ap, subst, ◌∙◌}
+use Rattle.std.proofs.Common.{◌≡◌, ◌<◌, ◌≤◌, ℕ, zero, suc, List, [], ◌∷◌, Option, Vec, Box, Result, length, get_or, map, sym, ap, subst, ◌∙◌, arith}
 use Rattle.std.specs.Global.{Global}
+use Rattle.std.specs.List.{AllByRecursion}
 use Rattle.yasna_base.specs.declared.error.ASN1Error.{ASN1Error}
+use Rattle.yasna_base.specs.declared.mode.BERMode.{BERMode}
+use Rattle.yasna_base.specs.declared.tag.Tag.{Tag}
+use Rattle.yasna_writer.specs.Prepend.{Prepended, Prepends, KnownLength}
 use Rattle.yasna_writer.specs.View.{Written, Writes}
 use Rattle.yasna_notation.specs.declared.choices.Either.TheVariants.{First, Second}
 use Rattle.ldap.specs.declared.filter.Filter.{Filter}
@@ -9,7 +13,7 @@ use Rattle.ldap.specs.declared.filter.Filter.TheOpen.Filter-F.{And as AndOf, Or 
 use Rattle.ldap.specs.declared.filter.Filter.TheVariants.{And, Or, Not, Item, rolls-And, rolls-Or, rolls-Not, rolls-Item}
 use Rattle.ldap.specs.declared.filter.Filter.TheViews.{out-roll-Filter}
 use Rattle.ldap.specs.declared.filter_item.FilterItem.{FilterItem}
-use Rattle.ldap.specs.Filters.{Parted, parted, parted_of, depth_of, parted_top, the_filter, whole}
+use Rattle.ldap.specs.Filters.{Parted, parted, parted_of, depth_of, parted_top, largest, the_filter, whole}
 use Rattle.ldap.specs.FilterLaws.{depth_is}
 use Rattle.ldap.specs.RecursionLaws.{unfolded_can, unfolded_encoding}
 use Rattle.ldap.specs.TheFilter.{the_step}
@@ -37,3 +41,23 @@ module _ (v : Filter) (p : Parted) (is : parted_of v ≡ p) where
       Writes (the_filter.encoding_under w.tag w.mode v) w w' r
   parts_written w w' r h =
       subst (λ b. Writes b w w' r) (sym (unfolded_encoding the_step w.tag w.mode v ∙ ap (λ z. whole.encoding_under w.tag w.mode z) is)) h
+
+  pub parts_prepended : (u : Option Tag) (old new : Prepended) (r : Result (Unit {0}) ASN1Error) → Prepends (whole.encoding_under u old.mode p) old new r →
+      Prepends (the_filter.encoding_under u old.mode v) old new r
+  parts_prepended u old new r h =
+      subst (λ b. Prepends b old new r) (sym (unfolded_encoding the_step u old.mode v ∙ ap (λ z. whole.encoding_under u old.mode z) is)) h
+
+  pub parts_known : (u : Option Tag) (m : BERMode) (r : Option ℕ) → KnownLength (whole.encoding_under u m p) r → KnownLength (the_filter.encoding_under u m v) r
+  parts_known u m r h = subst (λ b. KnownLength b r) (sym (unfolded_encoding the_step u m v ∙ ap (λ z. whole.encoding_under u m z) is)) h
+
+-- an item is at most as deep as the deepest
+pub within_largest : {A : Type 0} (depth : A → ℕ) (vs : List A) (i : ℕ) (v : A) → i < length vs → v ≡ get_or vs i v → depth v ≤ largest (map depth vs)
+within_largest depth [] i v below is = absurd (omega (arith, below))
+within_largest depth (w ∷ ws) zero v below is = omega (arith, ap depth is)
+within_largest depth (w ∷ ws) (suc i) v below is = let h = within_largest depth ws i v (omega (arith, below)) is in omega (arith, h)
+
+-- what is so of all is so of an item
+pub so_of_item : {A : Type 0} (P : A → Type 0) (vs : List A) (i : ℕ) (v : A) → AllByRecursion P vs → i < length vs → v ≡ get_or vs i v → P v
+so_of_item P [] i v a below is = absurd (omega (arith, below))
+so_of_item P (w ∷ ws) zero v a below is = subst P (sym is) a.0
+so_of_item P (w ∷ ws) (suc i) v a below is = so_of_item P ws i v a.1 (omega (arith, below)) is

@@ -16,7 +16,7 @@ ghost use Rattle.yasna_notation.specs.Writing.{sequence_written, set_of_written,
 ghost use Rattle.yasna_notation.specs.contracts.canonical.VecU8CanonicalNotation.TheImpl.Laws.{written-law as octets_written};
 
 use yasna::tags::TAG_SEQUENCE;
-use yasna::{ASN1Result, BERReader, DERWriter, Tag};
+use yasna::{ASN1Result, BERMode, BERReader, DERWriter, PrependBuffer, Tag};
 use yasna_notation::{
     Bounded, CanonicalNotation, Message, NotEmpty, Notation, Represents, Sequence, SetOf, read_as,
 };
@@ -62,6 +62,14 @@ impl Notation for Attribute {
 
     fn write(value: &Attribute, writer: DERWriter<'_>) -> ASN1Result<()> {
         Sequence::<Parts>::write_fields((&value.attribute_type, (&value.vals, ())), writer)
+    }
+
+    fn prepend(value: &Attribute, under: Option<Tag>, out: &mut PrependBuffer) -> ASN1Result<()> {
+        Sequence::<Parts>::prepend_fields((&value.attribute_type, (&value.vals, ())), under, out)
+    }
+
+    fn encoded_len(value: &Attribute, under: Option<Tag>, mode: BERMode) -> Option<usize> {
+        Sequence::<Parts>::fields_len((&value.attribute_type, (&value.vals, ())), under, mode)
     }
 
     ghost lawful = { λ _. represented_lawful ⟦<Attribute as Represents<Fields>>⟧.value_of

@@ -20,7 +20,7 @@ ghost use Rattle.yasna_notation.specs.Writing.{sequence_written, part_written, n
 ghost use Rattle.yasna_notation.specs.contracts.canonical.VecU8CanonicalNotation.TheImpl.Laws.{written-law as octets_written};
 
 use yasna::tags::TAG_SEQUENCE;
-use yasna::{ASN1Result, BERReader, DERWriter, Tag};
+use yasna::{ASN1Result, BERMode, BERReader, DERWriter, PrependBuffer, Tag};
 use yasna_notation::{CanonicalNotation, Message, Notation, Represents, Sequence, read_as};
 
 type Parts = (Vec<u8>, (Vec<u8>, ()));
@@ -65,6 +65,30 @@ impl Notation for AttributeValueAssertion {
         Sequence::<Parts>::write_fields(
             (&value.attribute_desc, (&value.assertion_value, ())),
             writer,
+        )
+    }
+
+    fn prepend(
+        value: &AttributeValueAssertion,
+        under: Option<Tag>,
+        out: &mut PrependBuffer,
+    ) -> ASN1Result<()> {
+        Sequence::<Parts>::prepend_fields(
+            (&value.attribute_desc, (&value.assertion_value, ())),
+            under,
+            out,
+        )
+    }
+
+    fn encoded_len(
+        value: &AttributeValueAssertion,
+        under: Option<Tag>,
+        mode: BERMode,
+    ) -> Option<usize> {
+        Sequence::<Parts>::fields_len(
+            (&value.attribute_desc, (&value.assertion_value, ())),
+            under,
+            mode,
         )
     }
 

@@ -11,7 +11,7 @@ ghost use Rattle.yasna_notation.specs.declared.choices.Either.TheVariants.{First
 ghost use Rattle.ldap.specs.declared.authentication.AuthenticationChoice.TheVariants.{Simple, Sasl};
 
 use crate::sasl_credentials::SaslCredentials;
-use yasna::{ASN1Result, DERWriter};
+use yasna::{ASN1Result, BERMode, DERWriter, PrependBuffer, Tag};
 use yasna_notation::{Choice, Context, DefinedType, Either, Implicit, Notation};
 
 type SimpleNotation = Implicit<Context<0>, Vec<u8>>;
@@ -42,6 +42,30 @@ impl DefinedType for AuthenticationChoice {
         match self {
             AuthenticationChoice::Simple(password) => SimpleNotation::write(password, writer),
             AuthenticationChoice::Sasl(credentials) => SaslNotation::write(credentials, writer),
+        }
+    }
+
+    fn prepend_value(&self, under: Option<Tag>, out: &mut PrependBuffer) -> ASN1Result<()> {
+        match self {
+            AuthenticationChoice::Simple(password) => SimpleNotation::prepend(password, under, out),
+            AuthenticationChoice::Sasl(credentials) => SaslNotation::prepend(
+                credentials,
+                under,
+                out,
+            ),
+        }
+    }
+
+    fn value_len(&self, under: Option<Tag>, mode: BERMode) -> Option<usize> {
+        match self {
+            AuthenticationChoice::Simple(password) => SimpleNotation::encoded_len(
+                password, under, mode,
+            ),
+            AuthenticationChoice::Sasl(credentials) => SaslNotation::encoded_len(
+                credentials,
+                under,
+                mode,
+            ),
         }
     }
 

@@ -27,8 +27,8 @@ ghost use Rattle.yasna_notation.specs.contracts.canonical.VecU8CanonicalNotation
 
 use crate::authentication::AuthenticationChoice;
 use crate::sasl_credentials::SaslCredentials;
-use crate::tagged::write_tagged_fields;
-use yasna::{ASN1Result, BERReader, DERWriter, Tag};
+use crate::tagged::{prepend_tagged_fields, tagged_fields_len, write_tagged_fields};
+use yasna::{ASN1Result, BERMode, BERReader, DERWriter, PrependBuffer, Tag};
 use yasna_notation::{
     Application, Bounded, CanonicalNotation, Choice, Context, DefinedType, FromTo, Implicit,
     Message, Notation, Represents, Sequence, read_as,
@@ -84,6 +84,22 @@ impl Notation for BindRequest {
         write_tagged_fields::<Application<0>, Parts, _>(
             (&value.version, (&value.name, (&value.authentication, ()))),
             writer,
+        )
+    }
+
+    fn prepend(value: &BindRequest, under: Option<Tag>, out: &mut PrependBuffer) -> ASN1Result<()> {
+        prepend_tagged_fields::<Application<0>, Parts, _>(
+            (&value.version, (&value.name, (&value.authentication, ()))),
+            under,
+            out,
+        )
+    }
+
+    fn encoded_len(value: &BindRequest, under: Option<Tag>, mode: BERMode) -> Option<usize> {
+        tagged_fields_len::<Application<0>, Parts, _>(
+            (&value.version, (&value.name, (&value.authentication, ()))),
+            under,
+            mode,
         )
     }
 

@@ -20,8 +20,8 @@ ghost use Rattle.yasna_notation.specs.contracts.canonical.EnumeratedCanonicalNot
 ghost use Rattle.yasna_notation.specs.contracts.canonical.VecU8CanonicalNotation.TheImpl.Laws.{written-law as octets_written};
 
 use crate::ldap_result::LdapResult;
-use crate::tagged::write_tagged_fields;
-use yasna::{ASN1Result, BERReader, DERWriter, Tag};
+use crate::tagged::{prepend_tagged_fields, tagged_fields_len, write_tagged_fields};
+use yasna::{ASN1Result, BERMode, BERReader, DERWriter, PrependBuffer, Tag};
 use yasna_notation::{
     Application, Bounded, CanonicalNotation, Context, Enumerated, FromZero, Implicit, Message,
     NotEmpty, Notation, Optional, Represents, Sequence, SequenceOf, read_as,
@@ -91,6 +91,28 @@ impl Notation for BindResponse {
         let ends = (&outcome.referral, (&value.server_sasl_creds, ()));
         let strings = (&outcome.matched_dn, (&outcome.diagnostic_message, ends));
         write_tagged_fields::<Application<1>, Parts, _>((&outcome.result_code, strings), writer)
+    }
+
+    fn prepend(
+        value: &BindResponse,
+        under: Option<Tag>,
+        out: &mut PrependBuffer,
+    ) -> ASN1Result<()> {
+        let outcome = &value.result;
+        let ends = (&outcome.referral, (&value.server_sasl_creds, ()));
+        let strings = (&outcome.matched_dn, (&outcome.diagnostic_message, ends));
+        prepend_tagged_fields::<Application<1>, Parts, _>(
+            (&outcome.result_code, strings),
+            under,
+            out,
+        )
+    }
+
+    fn encoded_len(value: &BindResponse, under: Option<Tag>, mode: BERMode) -> Option<usize> {
+        let outcome = &value.result;
+        let ends = (&outcome.referral, (&value.server_sasl_creds, ()));
+        let strings = (&outcome.matched_dn, (&outcome.diagnostic_message, ends));
+        tagged_fields_len::<Application<1>, Parts, _>((&outcome.result_code, strings), under, mode)
     }
 
     ghost lawful = { λ _. represented_lawful ⟦<BindResponse as Represents<Fields>>⟧.value_of

@@ -21,7 +21,7 @@ ghost use Rattle.yasna_notation.specs.contracts.canonical.BoolCanonicalNotation.
 ghost use Rattle.yasna_notation.specs.contracts.canonical.VecU8CanonicalNotation.TheImpl.Laws.{written-law as octets_written};
 
 use yasna::tags::TAG_SEQUENCE;
-use yasna::{ASN1Result, BERReader, DERWriter, Tag};
+use yasna::{ASN1Result, BERMode, BERReader, DERWriter, PrependBuffer, Tag};
 use yasna_notation::{
     CanonicalNotation, Default, False, Message, Notation, Optional, Represents, Sequence, read_as,
 };
@@ -74,6 +74,28 @@ impl Notation for Control {
                 (&value.criticality, (&value.control_value, ())),
             ),
             writer,
+        )
+    }
+
+    fn prepend(value: &Control, under: Option<Tag>, out: &mut PrependBuffer) -> ASN1Result<()> {
+        Sequence::<Parts>::prepend_fields(
+            (
+                &value.control_type,
+                (&value.criticality, (&value.control_value, ())),
+            ),
+            under,
+            out,
+        )
+    }
+
+    fn encoded_len(value: &Control, under: Option<Tag>, mode: BERMode) -> Option<usize> {
+        Sequence::<Parts>::fields_len(
+            (
+                &value.control_type,
+                (&value.criticality, (&value.control_value, ())),
+            ),
+            under,
+            mode,
         )
     }
 

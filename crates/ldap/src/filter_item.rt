@@ -35,7 +35,7 @@ ghost use Rattle.yasna_notation.specs.contracts.canonical.VecU8CanonicalNotation
 use crate::attribute_value_assertion::AttributeValueAssertion;
 use crate::matching_rule_assertion::MatchingRuleAssertion;
 use crate::substring_filter::SubstringFilter;
-use yasna::{ASN1Result, BERReader, DERWriter, Tag};
+use yasna::{ASN1Result, BERMode, BERReader, DERWriter, PrependBuffer, Tag};
 use yasna_notation::Either::{First, Second};
 use yasna_notation::{
     Alternatives, CanonicalNotation, Choice, Context, Either, Implicit, Message, Notation,
@@ -142,6 +142,44 @@ impl Notation for FilterItem {
             FilterItem::Present(chosen) => PresentNotation::write(chosen, writer),
             FilterItem::ApproxMatch(chosen) => ApproxMatchNotation::write(chosen, writer),
             FilterItem::ExtensibleMatch(chosen) => ExtensibleMatchNotation::write(chosen, writer),
+        }
+    }
+
+    fn prepend(value: &FilterItem, under: Option<Tag>, out: &mut PrependBuffer) -> ASN1Result<()> {
+        match value {
+            FilterItem::EqualityMatch(chosen) => EqualityMatchNotation::prepend(chosen, under, out),
+            FilterItem::Substrings(chosen) => SubstringsNotation::prepend(chosen, under, out),
+            FilterItem::GreaterOrEqual(chosen) => GreaterOrEqualNotation::prepend(
+                chosen, under, out,
+            ),
+            FilterItem::LessOrEqual(chosen) => LessOrEqualNotation::prepend(chosen, under, out),
+            FilterItem::Present(chosen) => PresentNotation::prepend(chosen, under, out),
+            FilterItem::ApproxMatch(chosen) => ApproxMatchNotation::prepend(chosen, under, out),
+            FilterItem::ExtensibleMatch(chosen) => ExtensibleMatchNotation::prepend(
+                chosen, under, out,
+            ),
+        }
+    }
+
+    fn encoded_len(value: &FilterItem, under: Option<Tag>, mode: BERMode) -> Option<usize> {
+        match value {
+            FilterItem::EqualityMatch(chosen) => EqualityMatchNotation::encoded_len(
+                chosen, under, mode,
+            ),
+            FilterItem::Substrings(chosen) => SubstringsNotation::encoded_len(chosen, under, mode),
+            FilterItem::GreaterOrEqual(chosen) => GreaterOrEqualNotation::encoded_len(
+                chosen, under, mode,
+            ),
+            FilterItem::LessOrEqual(chosen) => LessOrEqualNotation::encoded_len(
+                chosen, under, mode,
+            ),
+            FilterItem::Present(chosen) => PresentNotation::encoded_len(chosen, under, mode),
+            FilterItem::ApproxMatch(chosen) => ApproxMatchNotation::encoded_len(
+                chosen, under, mode,
+            ),
+            FilterItem::ExtensibleMatch(chosen) => ExtensibleMatchNotation::encoded_len(
+                chosen, under, mode,
+            ),
         }
     }
 

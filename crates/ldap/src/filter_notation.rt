@@ -5,9 +5,10 @@ ghost use Rattle.ldap.specs.TheFilter.{the_filter_lawful, the_filter_non_empty, 
 
 use crate::filter::Filter;
 use crate::filter_item::FilterItem;
+use crate::filter_lengths::{filter_len, prepend_filter};
 use crate::filter_reading::{is_context, read_filter};
 use crate::filter_writing::write_filter;
-use yasna::{ASN1Result, BERReader, DERWriter, Tag};
+use yasna::{ASN1Result, BERMode, BERReader, DERWriter, PrependBuffer, Tag};
 use yasna_notation::{CanonicalNotation, Message, Notation};
 
 impl Notation for Filter {
@@ -30,6 +31,14 @@ impl Notation for Filter {
 
     fn write(value: &Filter, writer: DERWriter<'_>) -> ASN1Result<()> {
         write_filter(value, writer)
+    }
+
+    fn prepend(value: &Filter, under: Option<Tag>, out: &mut PrependBuffer) -> ASN1Result<()> {
+        prepend_filter(value, under, out)
+    }
+
+    fn encoded_len(value: &Filter, under: Option<Tag>, mode: BERMode) -> Option<usize> {
+        filter_len(value, under, mode)
     }
 
     ghost lawful = { λ _. the_filter_lawful };

@@ -29,7 +29,7 @@ ghost use Rattle.yasna_notation.specs.contracts.canonical.U64CanonicalNotation.T
 use crate::control::Control;
 use crate::protocol_op::ProtocolOp;
 use yasna::tags::TAG_SEQUENCE;
-use yasna::{ASN1Result, BERReader, DERWriter, Tag};
+use yasna::{ASN1Result, BERMode, BERReader, DERWriter, PrependBuffer, Tag};
 use yasna_notation::{
     AtMost, Bounded, CanonicalNotation, Context, Implicit, Message, Notation, Optional, Represents,
     Sequence, SequenceOf, read_as,
@@ -86,6 +86,28 @@ impl Notation for LdapMessage {
                 (&value.protocol_op, (&value.controls, ())),
             ),
             writer,
+        )
+    }
+
+    fn prepend(value: &LdapMessage, under: Option<Tag>, out: &mut PrependBuffer) -> ASN1Result<()> {
+        Sequence::<Parts>::prepend_fields(
+            (
+                &value.message_id,
+                (&value.protocol_op, (&value.controls, ())),
+            ),
+            under,
+            out,
+        )
+    }
+
+    fn encoded_len(value: &LdapMessage, under: Option<Tag>, mode: BERMode) -> Option<usize> {
+        Sequence::<Parts>::fields_len(
+            (
+                &value.message_id,
+                (&value.protocol_op, (&value.controls, ())),
+            ),
+            under,
+            mode,
         )
     }
 

@@ -27,7 +27,7 @@ ghost use Rattle.yasna_notation.specs.contracts.canonical.EnumeratedCanonicalNot
 ghost use Rattle.yasna_notation.specs.contracts.canonical.VecU8CanonicalNotation.TheImpl.Laws.{written-law as octets_written};
 
 use yasna::tags::TAG_SEQUENCE;
-use yasna::{ASN1Result, BERReader, DERWriter, Tag};
+use yasna::{ASN1Result, BERMode, BERReader, DERWriter, PrependBuffer, Tag};
 use yasna_notation::{
     Bounded, CanonicalNotation, Context, Enumerated, FromZero, Implicit, Message, NotEmpty,
     Notation, Optional, Represents, Sequence, SequenceOf, read_as,
@@ -95,6 +95,34 @@ impl Notation for LdapResult {
                 ),
             ),
             writer,
+        )
+    }
+
+    fn prepend(value: &LdapResult, under: Option<Tag>, out: &mut PrependBuffer) -> ASN1Result<()> {
+        Sequence::<Parts>::prepend_fields(
+            (
+                &value.result_code,
+                (
+                    &value.matched_dn,
+                    (&value.diagnostic_message, (&value.referral, ())),
+                ),
+            ),
+            under,
+            out,
+        )
+    }
+
+    fn encoded_len(value: &LdapResult, under: Option<Tag>, mode: BERMode) -> Option<usize> {
+        Sequence::<Parts>::fields_len(
+            (
+                &value.result_code,
+                (
+                    &value.matched_dn,
+                    (&value.diagnostic_message, (&value.referral, ())),
+                ),
+            ),
+            under,
+            mode,
         )
     }
 

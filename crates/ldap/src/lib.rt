@@ -18,7 +18,7 @@
 //! | `bind_response`, `unbind_request` | responses to them, and requests to end a session |
 //! | `search_request` | requests to search |
 //! | `filter`, `filter_item` | filters, and those that aren't made of other filters |
-//! | `filter_reading`, `filter_writing`, `filter_notation` | how filters are read and written, and their laws |
+//! | `filter_reading`, `filter_writing`, `filter_lengths`, `filter_notation` | how filters are read and written, how long they are, and their laws |
 //! | `substring`, `substring_filter`, `matching_rule_assertion`, `attribute_value_assertion` | the assertions of filters |
 //! | `search_result_entry`, `search_result_done`, `search_result_reference` | what a search returns |
 //! | `partial_attribute`, `attribute` | attributes |
@@ -33,6 +33,7 @@ mod bind_response;
 mod control;
 mod filter;
 mod filter_item;
+mod filter_lengths;
 mod filter_notation;
 mod filter_reading;
 mod filter_writing;

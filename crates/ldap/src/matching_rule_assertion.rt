@@ -26,7 +26,7 @@ ghost use Rattle.yasna_notation.specs.contracts.canonical.BoolCanonicalNotation.
 ghost use Rattle.yasna_notation.specs.contracts.canonical.VecU8CanonicalNotation.TheImpl.Laws.{written-law as octets_written};
 
 use yasna::tags::TAG_SEQUENCE;
-use yasna::{ASN1Result, BERReader, DERWriter, Tag};
+use yasna::{ASN1Result, BERMode, BERReader, DERWriter, PrependBuffer, Tag};
 use yasna_notation::{
     CanonicalNotation, Context, Default, DefaultValue, Implicit, Message, Notation, Optional,
     Represents, Sequence, read_as,
@@ -119,6 +119,42 @@ impl Notation for MatchingRuleAssertion {
                 ),
             ),
             writer,
+        )
+    }
+
+    fn prepend(
+        value: &MatchingRuleAssertion,
+        under: Option<Tag>,
+        out: &mut PrependBuffer,
+    ) -> ASN1Result<()> {
+        Sequence::<Parts>::prepend_fields(
+            (
+                &value.matching_rule,
+                (
+                    &value.attribute_type,
+                    (&value.match_value, (&value.dn_attributes, ())),
+                ),
+            ),
+            under,
+            out,
+        )
+    }
+
+    fn encoded_len(
+        value: &MatchingRuleAssertion,
+        under: Option<Tag>,
+        mode: BERMode,
+    ) -> Option<usize> {
+        Sequence::<Parts>::fields_len(
+            (
+                &value.matching_rule,
+                (
+                    &value.attribute_type,
+                    (&value.match_value, (&value.dn_attributes, ())),
+                ),
+            ),
+            under,
+            mode,
         )
     }
 

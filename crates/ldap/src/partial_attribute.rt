@@ -20,7 +20,7 @@ ghost use Rattle.yasna_notation.specs.Writing.{sequence_written, set_of_written,
 ghost use Rattle.yasna_notation.specs.contracts.canonical.VecU8CanonicalNotation.TheImpl.Laws.{written-law as octets_written};
 
 use yasna::tags::TAG_SEQUENCE;
-use yasna::{ASN1Result, BERReader, DERWriter, Tag};
+use yasna::{ASN1Result, BERMode, BERReader, DERWriter, PrependBuffer, Tag};
 use yasna_notation::{CanonicalNotation, Message, Notation, Represents, Sequence, SetOf, read_as};
 
 type Parts = (Vec<u8>, (SetOf<Vec<u8>>, ()));
@@ -64,6 +64,18 @@ impl Notation for PartialAttribute {
 
     fn write(value: &PartialAttribute, writer: DERWriter<'_>) -> ASN1Result<()> {
         Sequence::<Parts>::write_fields((&value.attribute_type, (&value.vals, ())), writer)
+    }
+
+    fn prepend(
+        value: &PartialAttribute,
+        under: Option<Tag>,
+        out: &mut PrependBuffer,
+    ) -> ASN1Result<()> {
+        Sequence::<Parts>::prepend_fields((&value.attribute_type, (&value.vals, ())), under, out)
+    }
+
+    fn encoded_len(value: &PartialAttribute, under: Option<Tag>, mode: BERMode) -> Option<usize> {
+        Sequence::<Parts>::fields_len((&value.attribute_type, (&value.vals, ())), under, mode)
     }
 
     ghost lawful = { λ _. represented_lawful ⟦<PartialAttribute as Represents<Fields>>⟧.value_of

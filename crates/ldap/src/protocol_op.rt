@@ -41,7 +41,7 @@ use crate::search_result_done::SearchResultDone;
 use crate::search_result_entry::SearchResultEntry;
 use crate::search_result_reference::SearchResultReference;
 use crate::unbind_request::UnbindRequest;
-use yasna::{ASN1Result, BERReader, DERWriter, Tag};
+use yasna::{ASN1Result, BERMode, BERReader, DERWriter, PrependBuffer, Tag};
 use yasna_notation::Either::{First, Second};
 use yasna_notation::{
     Alternatives, CanonicalNotation, Choice, Either, Message, Notation, Represents, read_as,
@@ -131,6 +131,48 @@ impl Notation for ProtocolOp {
             ProtocolOp::SearchResultDone(operation) => SearchResultDone::write(operation, writer),
             ProtocolOp::SearchResultReference(operation) => SearchResultReference::write(
                 operation, writer,
+            ),
+        }
+    }
+
+    fn prepend(value: &ProtocolOp, under: Option<Tag>, out: &mut PrependBuffer) -> ASN1Result<()> {
+        match value {
+            ProtocolOp::BindRequest(operation) => BindRequest::prepend(operation, under, out),
+            ProtocolOp::BindResponse(operation) => BindResponse::prepend(operation, under, out),
+            ProtocolOp::UnbindRequest(operation) => UnbindRequest::prepend(operation, under, out),
+            ProtocolOp::SearchRequest(operation) => SearchRequest::prepend(operation, under, out),
+            ProtocolOp::SearchResultEntry(operation) => SearchResultEntry::prepend(
+                operation, under, out,
+            ),
+            ProtocolOp::SearchResultDone(operation) => SearchResultDone::prepend(
+                operation, under, out,
+            ),
+            ProtocolOp::SearchResultReference(operation) => SearchResultReference::prepend(
+                operation, under, out,
+            ),
+        }
+    }
+
+    fn encoded_len(value: &ProtocolOp, under: Option<Tag>, mode: BERMode) -> Option<usize> {
+        match value {
+            ProtocolOp::BindRequest(operation) => BindRequest::encoded_len(operation, under, mode),
+            ProtocolOp::BindResponse(operation) => BindResponse::encoded_len(
+                operation, under, mode,
+            ),
+            ProtocolOp::UnbindRequest(operation) => UnbindRequest::encoded_len(
+                operation, under, mode,
+            ),
+            ProtocolOp::SearchRequest(operation) => SearchRequest::encoded_len(
+                operation, under, mode,
+            ),
+            ProtocolOp::SearchResultEntry(operation) => SearchResultEntry::encoded_len(
+                operation, under, mode,
+            ),
+            ProtocolOp::SearchResultDone(operation) => SearchResultDone::encoded_len(
+                operation, under, mode,
+            ),
+            ProtocolOp::SearchResultReference(operation) => SearchResultReference::encoded_len(
+                operation, under, mode,
             ),
         }
     }

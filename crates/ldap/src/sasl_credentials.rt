@@ -18,7 +18,7 @@ ghost use Rattle.yasna_notation.specs.Writing.{sequence_written, part_written, o
 ghost use Rattle.yasna_notation.specs.contracts.canonical.VecU8CanonicalNotation.TheImpl.Laws.{written-law as octets_written};
 
 use yasna::tags::TAG_SEQUENCE;
-use yasna::{ASN1Result, BERReader, DERWriter, Tag};
+use yasna::{ASN1Result, BERMode, BERReader, DERWriter, PrependBuffer, Tag};
 use yasna_notation::{
     CanonicalNotation, Message, Notation, Optional, Represents, Sequence, read_as,
 };
@@ -63,6 +63,18 @@ impl Notation for SaslCredentials {
 
     fn write(value: &SaslCredentials, writer: DERWriter<'_>) -> ASN1Result<()> {
         Sequence::<Parts>::write_fields((&value.mechanism, (&value.credentials, ())), writer)
+    }
+
+    fn prepend(
+        value: &SaslCredentials,
+        under: Option<Tag>,
+        out: &mut PrependBuffer,
+    ) -> ASN1Result<()> {
+        Sequence::<Parts>::prepend_fields((&value.mechanism, (&value.credentials, ())), under, out)
+    }
+
+    fn encoded_len(value: &SaslCredentials, under: Option<Tag>, mode: BERMode) -> Option<usize> {
+        Sequence::<Parts>::fields_len((&value.mechanism, (&value.credentials, ())), under, mode)
     }
 
     ghost lawful = { λ _. represented_lawful ⟦<SaslCredentials as Represents<Fields>>⟧.value_of

@@ -39,8 +39,8 @@ ghost use Rattle.yasna_notation.specs.contracts.canonical.U64CanonicalNotation.T
 ghost use Rattle.yasna_notation.specs.contracts.canonical.VecU8CanonicalNotation.TheImpl.Laws.{written-law as octets_written};
 
 use crate::filter::Filter;
-use crate::tagged::write_tagged_fields;
-use yasna::{ASN1Result, BERReader, DERWriter, Tag};
+use crate::tagged::{prepend_tagged_fields, tagged_fields_len, write_tagged_fields};
+use yasna::{ASN1Result, BERMode, BERReader, DERWriter, PrependBuffer, Tag};
 use yasna_notation::{
     Application, AtMost, Bounded, CanonicalNotation, Enumerated, FromZero, Implicit, Message,
     Notation, Represents, Sequence, SequenceOf, UpTo, read_as,
@@ -141,6 +141,56 @@ impl Notation for SearchRequest {
                 ),
             ),
             writer,
+        )
+    }
+
+    fn prepend(
+        value: &SearchRequest,
+        under: Option<Tag>,
+        out: &mut PrependBuffer,
+    ) -> ASN1Result<()> {
+        prepend_tagged_fields::<Application<3>, Parts, _>(
+            (
+                &value.base_object,
+                (
+                    &value.scope,
+                    (
+                        &value.deref_aliases,
+                        (
+                            &value.size_limit,
+                            (
+                                &value.time_limit,
+                                (&value.types_only, (&value.filter, (&value.attributes, ()))),
+                            ),
+                        ),
+                    ),
+                ),
+            ),
+            under,
+            out,
+        )
+    }
+
+    fn encoded_len(value: &SearchRequest, under: Option<Tag>, mode: BERMode) -> Option<usize> {
+        tagged_fields_len::<Application<3>, Parts, _>(
+            (
+                &value.base_object,
+                (
+                    &value.scope,
+                    (
+                        &value.deref_aliases,
+                        (
+                            &value.size_limit,
+                            (
+                                &value.time_limit,
+                                (&value.types_only, (&value.filter, (&value.attributes, ()))),
+                            ),
+                        ),
+                    ),
+                ),
+            ),
+            under,
+            mode,
         )
     }
 

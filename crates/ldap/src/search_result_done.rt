@@ -14,7 +14,7 @@ ghost use Rattle.yasna_notation.specs.Writing.{under_application};
 ghost use Rattle.ldap.specs.contracts.ldap_result.LdapResultCanonicalNotation.TheImpl.Laws.{written-law as result_written};
 
 use crate::ldap_result::LdapResult;
-use yasna::{ASN1Result, BERReader, DERWriter, Tag};
+use yasna::{ASN1Result, BERMode, BERReader, DERWriter, PrependBuffer, Tag};
 use yasna_notation::{
     Application, CanonicalNotation, Implicit, Message, Notation, Represents, read_as,
 };
@@ -52,6 +52,18 @@ impl Notation for SearchResultDone {
 
     fn write(value: &SearchResultDone, writer: DERWriter<'_>) -> ASN1Result<()> {
         Notated::write(&value.result, writer)
+    }
+
+    fn prepend(
+        value: &SearchResultDone,
+        under: Option<Tag>,
+        out: &mut PrependBuffer,
+    ) -> ASN1Result<()> {
+        Notated::prepend(&value.result, under, out)
+    }
+
+    fn encoded_len(value: &SearchResultDone, under: Option<Tag>, mode: BERMode) -> Option<usize> {
+        Notated::encoded_len(&value.result, under, mode)
     }
 
     ghost lawful = { λ _. represented_lawful ⟦<SearchResultDone as Represents<LdapResult>>⟧.value_of

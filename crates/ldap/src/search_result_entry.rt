@@ -23,8 +23,8 @@ ghost use Rattle.ldap.specs.contracts.partial_attribute.PartialAttributeCanonica
 ghost use Rattle.yasna_notation.specs.contracts.canonical.VecU8CanonicalNotation.TheImpl.Laws.{written-law as octets_written};
 
 use crate::partial_attribute::PartialAttribute;
-use crate::tagged::write_tagged_fields;
-use yasna::{ASN1Result, BERReader, DERWriter, Tag};
+use crate::tagged::{prepend_tagged_fields, tagged_fields_len, write_tagged_fields};
+use yasna::{ASN1Result, BERMode, BERReader, DERWriter, PrependBuffer, Tag};
 use yasna_notation::{
     Application, CanonicalNotation, Implicit, Message, Notation, Represents, Sequence, SequenceOf,
     read_as,
@@ -74,6 +74,26 @@ impl Notation for SearchResultEntry {
         write_tagged_fields::<Application<4>, Parts, _>(
             (&value.object_name, (&value.attributes, ())),
             writer,
+        )
+    }
+
+    fn prepend(
+        value: &SearchResultEntry,
+        under: Option<Tag>,
+        out: &mut PrependBuffer,
+    ) -> ASN1Result<()> {
+        prepend_tagged_fields::<Application<4>, Parts, _>(
+            (&value.object_name, (&value.attributes, ())),
+            under,
+            out,
+        )
+    }
+
+    fn encoded_len(value: &SearchResultEntry, under: Option<Tag>, mode: BERMode) -> Option<usize> {
+        tagged_fields_len::<Application<4>, Parts, _>(
+            (&value.object_name, (&value.attributes, ())),
+            under,
+            mode,
         )
     }
 

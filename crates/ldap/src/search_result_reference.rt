@@ -16,7 +16,7 @@ ghost use Rattle.yasna_notation.specs.Canonical.{represented_written};
 ghost use Rattle.yasna_notation.specs.Writing.{sequence_of_written, under_application, non_empty_list_written};
 ghost use Rattle.yasna_notation.specs.contracts.canonical.VecU8CanonicalNotation.TheImpl.Laws.{written-law as octets_written};
 
-use yasna::{ASN1Result, BERReader, DERWriter, Tag};
+use yasna::{ASN1Result, BERMode, BERReader, DERWriter, PrependBuffer, Tag};
 use yasna_notation::{
     Application, Bounded, CanonicalNotation, Implicit, Message, NotEmpty, Notation, Represents,
     SequenceOf, read_as,
@@ -56,6 +56,22 @@ impl Notation for SearchResultReference {
 
     fn write(value: &SearchResultReference, writer: DERWriter<'_>) -> ASN1Result<()> {
         Notated::write(&value.uris, writer)
+    }
+
+    fn prepend(
+        value: &SearchResultReference,
+        under: Option<Tag>,
+        out: &mut PrependBuffer,
+    ) -> ASN1Result<()> {
+        Notated::prepend(&value.uris, under, out)
+    }
+
+    fn encoded_len(
+        value: &SearchResultReference,
+        under: Option<Tag>,
+        mode: BERMode,
+    ) -> Option<usize> {
+        Notated::encoded_len(&value.uris, under, mode)
     }
 
     ghost lawful = { λ _. represented_lawful ⟦<SearchResultReference as Represents<Vec<Vec<u8>>>>⟧.value_of

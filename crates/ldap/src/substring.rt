@@ -20,7 +20,7 @@ ghost use Rattle.yasna_notation.specs.Canonical.{represented_written, choice_wri
 ghost use Rattle.yasna_notation.specs.Writing.{alternative_written, under_context};
 ghost use Rattle.yasna_notation.specs.contracts.canonical.VecU8CanonicalNotation.TheImpl.Laws.{written-law as octets_written};
 
-use yasna::{ASN1Result, BERReader, DERWriter, Tag};
+use yasna::{ASN1Result, BERMode, BERReader, DERWriter, PrependBuffer, Tag};
 use yasna_notation::Either::{First, Second};
 use yasna_notation::{
     Alternatives, CanonicalNotation, Choice, Context, Either, Implicit, Message, Notation,
@@ -79,6 +79,22 @@ impl Notation for Substring {
             Substring::Initial(octets) => InitialNotation::write(octets, writer),
             Substring::Any(octets) => AnyNotation::write(octets, writer),
             Substring::Final(octets) => FinalNotation::write(octets, writer),
+        }
+    }
+
+    fn prepend(value: &Substring, under: Option<Tag>, out: &mut PrependBuffer) -> ASN1Result<()> {
+        match value {
+            Substring::Initial(octets) => InitialNotation::prepend(octets, under, out),
+            Substring::Any(octets) => AnyNotation::prepend(octets, under, out),
+            Substring::Final(octets) => FinalNotation::prepend(octets, under, out),
+        }
+    }
+
+    fn encoded_len(value: &Substring, under: Option<Tag>, mode: BERMode) -> Option<usize> {
+        match value {
+            Substring::Initial(octets) => InitialNotation::encoded_len(octets, under, mode),
+            Substring::Any(octets) => AnyNotation::encoded_len(octets, under, mode),
+            Substring::Final(octets) => FinalNotation::encoded_len(octets, under, mode),
         }
     }
 

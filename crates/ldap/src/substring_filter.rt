@@ -22,7 +22,7 @@ ghost use Rattle.yasna_notation.specs.contracts.canonical.VecU8CanonicalNotation
 
 use crate::substring::Substring;
 use yasna::tags::TAG_SEQUENCE;
-use yasna::{ASN1Result, BERReader, DERWriter, Tag};
+use yasna::{ASN1Result, BERMode, BERReader, DERWriter, PrependBuffer, Tag};
 use yasna_notation::{
     Bounded, CanonicalNotation, Message, NotEmpty, Notation, Represents, Sequence, SequenceOf,
     read_as,
@@ -69,6 +69,26 @@ impl Notation for SubstringFilter {
 
     fn write(value: &SubstringFilter, writer: DERWriter<'_>) -> ASN1Result<()> {
         Sequence::<Parts>::write_fields((&value.attribute_type, (&value.substrings, ())), writer)
+    }
+
+    fn prepend(
+        value: &SubstringFilter,
+        under: Option<Tag>,
+        out: &mut PrependBuffer,
+    ) -> ASN1Result<()> {
+        Sequence::<Parts>::prepend_fields(
+            (&value.attribute_type, (&value.substrings, ())),
+            under,
+            out,
+        )
+    }
+
+    fn encoded_len(value: &SubstringFilter, under: Option<Tag>, mode: BERMode) -> Option<usize> {
+        Sequence::<Parts>::fields_len(
+            (&value.attribute_type, (&value.substrings, ())),
+            under,
+            mode,
+        )
     }
 
     ghost lawful = { λ _. represented_lawful ⟦<SubstringFilter as Represents<Fields>>⟧.value_of

@@ -13,7 +13,7 @@ ghost use Rattle.yasna_notation.specs.Canonical.{represented_written};
 ghost use Rattle.yasna_notation.specs.Writing.{under_application};
 ghost use Rattle.yasna_notation.specs.contracts.canonical.UnitCanonicalNotation.TheImpl.Laws.{written-law as null_written};
 
-use yasna::{ASN1Result, BERReader, DERWriter, Tag};
+use yasna::{ASN1Result, BERMode, BERReader, DERWriter, PrependBuffer, Tag};
 use yasna_notation::{
     Application, CanonicalNotation, Implicit, Message, Notation, Represents, read_as,
 };
@@ -49,6 +49,18 @@ impl Notation for UnbindRequest {
 
     fn write(_value: &UnbindRequest, writer: DERWriter<'_>) -> ASN1Result<()> {
         Notated::write(&(), writer)
+    }
+
+    fn prepend(
+        _value: &UnbindRequest,
+        under: Option<Tag>,
+        out: &mut PrependBuffer,
+    ) -> ASN1Result<()> {
+        Notated::prepend(&(), under, out)
+    }
+
+    fn encoded_len(_value: &UnbindRequest, under: Option<Tag>, mode: BERMode) -> Option<usize> {
+        Notated::encoded_len(&(), under, mode)
     }
 
     ghost lawful = { λ _. represented_lawful ⟦<UnbindRequest as Represents<()>>⟧.value_of
