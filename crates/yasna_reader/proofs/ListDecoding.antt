@@ -180,7 +180,8 @@ module _ {F A : Type 0} {E : A → A → Type 0} {B : Grammar A} {S : Members} (
     listed f s fresh xs s' x =
         listed_by s fresh x.values x.reached x.place (ran x.values f s x.reached x.place fresh x.turns) x.last x.after s' x.turn xs x.ends
 
-  collected : (f : F) (s : Reading) (r : Result (Vec A Global) ASN1Error) (s' : Reading) → IsFresh s → Collects C f s r s' →
+  -- contents that are collected
+  pub collected : (f : F) (s : Reading) (r : Result (Vec A Global) ASN1Error) (s' : Reading) → IsFresh s → Collects C f s r s' →
       DecodesContents {A = Vec A Global} true (λ m n v c. ElementsOf B m n v.items c) (AnyElements S) s (unless_failed s'.failed r) s'
   collected f s r s' fresh (inl x) = seen_contents (ElementsOf B) (AnyElements S) s s' s'.failed r (listed true (λ e. refl) f s fresh (items_of r) s' x)
   collected f s r s' fresh (inr x) =

@@ -101,11 +101,15 @@ plain_turns C [] g s h m t = (ap (λ (z : Bounded _). z.callback) t.0, t.1)
 plain_turns C (v ∷ vs) g s h m t = (t.0.callback, t.1, t.2.turn, plain_turns C vs t.0 t.1 h m t.3)
 
 -- a callback that may be called wherever its turns reach may be so where elements have to be in order
+pub turns_in_order : {F A : Type 0} (o : Order) (g : Mut F (MutBor Reading × Unit {0}) (Result A ASN1Error × (MutBor Reading × Unit {0}))) (f : F)
+    (s : Reading) → TakesTurns g f s → TakesTurnsInOrder o g f s
+turns_in_order o g f s may h vs prefix rest e turns =
+    may h.callback vs prefix rest e (plain_turns (CalledAtMut g) vs (record { callback = f; bound = bound_in o s.mode }) s h (record s { left = rest }) turns)
+
+-- as `turns_in_order`, of the contents of a list
 pub takes_in_order : {F A : Type 0} (o : Order) (g : Mut F (MutBor Reading × Unit {0}) (Result A ASN1Error × (MutBor Reading × Unit {0}))) (f : F)
     (t : Tag) (s : Reading) → TakesContents (TakesTurns g f) t s → TakesContents (TakesTurnsInOrder o g f) t s
-takes_in_order o g f t s may c end unfailed level opens h vs prefix rest e turns =
-    may c end unfailed level opens h.callback vs prefix rest e (plain_turns (CalledAtMut g) vs
-    (record { callback = f; bound = bound_in o (inside s c).mode }) (inside s c) h (record (inside s c) { left = rest }) turns)
+takes_in_order o g f t s may c end unfailed level opens = turns_in_order o g f (inside s c) (may c end unfailed level opens)
 
 -- the callback may be called where turns so far reached
 pub takes_turn : {F A : Type 0} (o : Order) (g : Mut F (MutBor Reading × Unit {0}) (Result A ASN1Error × (MutBor Reading × Unit {0}))) (f : F)
@@ -253,9 +257,9 @@ module _ {F A : Type 0} (C : F → Reading → Result A ASN1Error → F → Read
         ends = h.ends;
       }
 
-  pub collects_any : (f : F) (t : Tag) (s : Reading) (r : Result (Vec A Global) ASN1Error) (s' : Reading) → ReadsParts (CollectsInOrder Any C f) t s r s' →
-      ReadsParts (Collects C f) t s r s'
-  collects_any f t = parts_map (CollectsInOrder Any C f) (Collects C f) (λ s r s' fresh h. elim h [
+  -- what is collected without an order is collected as a list's callback gives it
+  pub collected_any : (f : F) (s : Reading) (r : Result (Vec A Global) ASN1Error) (s' : Reading) → CollectsInOrder Any C f s r s' → Collects C f s r s'
+  collected_any f s r s' h = elim h [
     | inl x ↦ inl (lists_any f s (items_of r) s' x)
     | inr x ↦ inr (record {
       values = x.values;
@@ -268,7 +272,11 @@ module _ {F A : Type 0} (C : F → Reading → Result A ASN1Error → F → Read
       returned = x.returned;
       state = x.state;
     })
-  ]) t
+  ]
+
+  pub collects_any : (f : F) (t : Tag) (s : Reading) (r : Result (Vec A Global) ASN1Error) (s' : Reading) → ReadsParts (CollectsInOrder Any C f) t s r s' →
+      ReadsParts (Collects C f) t s r s'
+  collects_any f t = parts_map (CollectsInOrder Any C f) (Collects C f) (λ s r s' fresh h. collected_any f s r s' h) t
 
   pub visits_any : (f : F) (t : Tag) (s : Reading) (r : Result (Unit {0}) ASN1Error) (s' : Reading) → ReadsParts (VisitsInOrder Any C f) t s r s' →
       ReadsParts (Visits C f) t s r s'

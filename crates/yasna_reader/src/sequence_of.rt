@@ -4,7 +4,7 @@ ghost use Rattle.yasna_base.specs.Sequence.{sequence_tag};
 
 use crate::callback::Outcome;
 use crate::set_of::{Order, first_bound};
-use crate::state::{BERReader, ReaderState};
+use crate::state::{BERReader, PartsReader, ReaderState};
 use yasna_base::error::{ASN1Error, ASN1ErrorKind, ASN1Result};
 use yasna_base::tag::Tag;
 use yasna_base::tags::TAG_SEQUENCE;
@@ -168,5 +168,28 @@ impl<'a> ReaderState<'a> {
             return self.fail_outcome(ASN1Error::new(ASN1ErrorKind::Invalid));
         }
         outcome
+    }
+}
+
+impl<'a> PartsReader<ReaderState<'a>> {
+    ghost use Rattle.std.specs.Fn.{CalledAtMut};
+    ghost use Rattle.yasna_reader.specs.SequenceOf.{TakesTurns, Collects};
+    ghost use Rattle.yasna_reader.specs.State.{IsFresh, part_of};
+
+    /// Reads the parts that are left, up to the end, as the elements of a list. The callback reads one element each time that it is called.
+    ///
+    /// It is called, and its errors end the list, as by `collect_sequence_of`. If there is no memory for the vector, it returns `OutOfMemory`,
+    /// which is sticky.
+    #[inline(always)]
+    #[tactic(auto, using(crate::proofs::ListTurns::collected_any))]
+    pub fn collect_rest<T: Drop, F>(&mut self, f: F) -> ASN1Result<Vec<T>>
+    where
+        F: FnMut(BERReader<'a, '_>) -> ASN1Result<T> + Drop,
+        requires fresh { IsFresh (part_of self.old) }
+        requires turns { TakesTurns F.FnMut f (part_of self.old) }
+        ensures { Collects (CalledAtMut F.FnMut) f (part_of self.old) result (part_of self.new) }
+    {
+        let reader = &mut self.reader;
+        reader.collect(Order::Any, f)
     }
 }
