@@ -78,6 +78,16 @@ taken_from c mode n x m o s' h = taken_after (record { left = c; mode = mode; le
 pub place_unconsumed : (c y : List ℕ) → length y ≡ length c → place_in c y ≡ c
 place_unconsumed c y e = let n : length c - length y ≡ 0 = omega (arith, e) in ap (λ n. drop n c) n
 
+-- a copy of a reading, for which the tag t waits
+pub copied : (c d : Cursor) (t u : Option Tag) (k : Option ASN1Error) (s : Reading) → d.left.now ≡ c.left.now → d.mode ≡ c.mode → d.levels ≡ c.levels →
+    record (at_cursor c) { tag = u; failed = k } ≡ s → s.failed ≡ None → record (at_cursor d) { tag = t } ≡ record s { tag = t }
+copied c d t u k s left mode levels e f =
+    ap {A = List ℕ} {B = Reading} (λ l. record { left = l; mode = d.mode; levels = d.levels; tag = t; failed = None }) left
+    ∙ ap {A = BERMode} {B = Reading} (λ m. record { left = c.left.now; mode = m; levels = d.levels; tag = t; failed = None }) mode
+    ∙ ap {A = ℕ} {B = Reading} (λ n. record { left = c.left.now; mode = c.mode; levels = n; tag = t; failed = None }) levels
+    ∙ ap (λ (z : Reading). record z { tag = t; failed = None }) e
+    ∙ ap {A = Option ASN1Error} {B = Reading} (λ u. record s { tag = t; failed = u }) (sym f)
+
 -- a callback that is lent a copy, for which a tag waits
 pub regained : {A : Type 0} (P : Does A) (s : Reading) (t : Option Tag) (x : Result A ASN1Error) (m : Reading) (o : Outcome A) (s' : Reading) →
     P (record s { tag = t }) x m → Regains x m s o s' → Lent P (record s { tag = t }) s o s'

@@ -54,7 +54,7 @@ impl<'a> ReaderState<'a> {
     }
 
     // Lends a callback a copy of this reading, with this tag in place of the one that waits. Where the callback has no match, this
-    // reading is as it was. The copy's bytes are stored once more, as two words: sixteen bytes at once would wait for both.
+    // reading is as it was. The copy is made word by word: sixteen bytes at once would wait for two words that were just stored.
     #[inline(always)]
     pub(crate) fn hand_under<T: Drop, F>(&mut self, tag: Option<Tag>, f: F) -> Outcome<T>
     where
@@ -64,23 +64,14 @@ impl<'a> ReaderState<'a> {
         ensures { Lent (FnOnceReturnsAtMut F.FnOnce f) (record self.old { tag = tag }) self.old result self.new }
     {
         let mut lent = ReaderState {
-            cursor: self.cursor,
+            cursor: self.cursor.further(self.cursor.left),
             tag,
             failed: None,
             deeper: 0,
             alloc: self.alloc,
         };
-        lent.go_to(self.cursor.left);
         let returned = f(&mut lent);
         self.regain(&lent, returned)
-    }
-
-    // Goes on with these bytes.
-    #[inline(always)]
-    fn go_to(&mut self, left: &'a [u8])
-        ensures { self.new ≡ record self.old { left = left.now } }
-    {
-        self.cursor.left = left;
     }
 
     // The outcome of a callback that left this of a copy and returned this result, which is tested first, as in `leave`.
