@@ -1,7 +1,7 @@
 //! The arguments and the standard streams of the programs, and what is printed if one of them fails.
 #![tactic(auto)]
 
-ghost use Rattle.std.specs.Prelude.{◌≡◌, ◌↔◌};
+ghost use Rattle.std.specs.Prelude.{◌≡◌, ◌↔◌, ◌⊎◌, IfErr};
 ghost use Rattle.program_io.specs.declared.ProgramError.{ProgramError};
 
 use std::io::{ErrorKind, Read, Write};
@@ -25,11 +25,12 @@ pub enum ProgramError {
 }
 
 impl ProgramError {
-    // The error that this kind of I/O error is, or else the other one.
-    fn of_kind(kind: ErrorKind, other: ProgramError) -> ProgramError {
+    // `Memory` if this kind of I/O error is out of memory, or else the other error.
+    fn of_kind(kind: ErrorKind, other: ProgramError) -> ProgramError
+        ensures { (result ≡ ProgramError.Memory) ⊎ (result ≡ other) }
+    {
         match kind {
             ErrorKind::OutOfMemory => ProgramError::Memory,
-            ErrorKind::BrokenPipe => ProgramError::ClosedPipe,
             _ => other,
         }
     }
@@ -78,7 +79,11 @@ fn read_words(rt: &HostRuntime) -> io::Result<Vec<String>> {
 }
 
 /// The arguments, of which the first is the program's name.
-pub fn arguments(rt: &HostRuntime) -> Result<Vec<String>, ProgramError> {
+///
+/// The contract names the errors. No contract says what the arguments are, nor when they can be read.
+pub fn arguments(rt: &HostRuntime) -> Result<Vec<String>, ProgramError>
+    ensures { IfErr result (λ e. (e ≡ ProgramError.NotText) ⊎ (e ≡ ProgramError.Memory) ⊎ (e ≡ ProgramError.Arguments)) }
+{
     match read_words(rt) {
         Ok(words) => Ok(words),
         Err(error) => match error.kind() {
@@ -89,7 +94,11 @@ pub fn arguments(rt: &HostRuntime) -> Result<Vec<String>, ProgramError> {
 }
 
 /// All of standard input.
-pub fn read_input(rt: &HostRuntime) -> Result<Vec<u8>, ProgramError> {
+///
+/// The contract names the errors. No contract says which bytes a stream gives, nor when it fails.
+pub fn read_input(rt: &HostRuntime) -> Result<Vec<u8>, ProgramError>
+    ensures { IfErr result (λ e. (e ≡ ProgramError.Memory) ⊎ (e ≡ ProgramError.Input)) }
+{
     let mut input = Vec::new(rt.alloc());
     match rt.stdin().read_to_end(&mut input) {
         Ok(_) => Ok(input),
@@ -105,9 +114,16 @@ fn write_and_flush(rt: &HostRuntime, bytes: &[u8]) -> io::Result<()> {
 }
 
 /// Writes these bytes to standard output.
-pub fn write_output(rt: &HostRuntime, bytes: &[u8]) -> Result<(), ProgramError> {
+///
+/// The contract names the errors. No contract says that a stream takes the bytes.
+pub fn write_output(rt: &HostRuntime, bytes: &[u8]) -> Result<(), ProgramError>
+    ensures { IfErr result (λ e. (e ≡ ProgramError.Memory) ⊎ (e ≡ ProgramError.Output) ⊎ (e ≡ ProgramError.ClosedPipe)) }
+{
     match write_and_flush(rt, bytes) {
         Ok(()) => Ok(()),
-        Err(error) => Err(ProgramError::of_kind(error.kind(), ProgramError::Output)),
+        Err(error) => match error.kind() {
+            ErrorKind::BrokenPipe => Err(ProgramError::ClosedPipe),
+            kind => Err(ProgramError::of_kind(kind, ProgramError::Output)),
+        },
     }
 }
