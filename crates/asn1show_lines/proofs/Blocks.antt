@@ -1,14 +1,11 @@
 -- What is left to be said by lines of PEM, one line after the other.
-use Rattle.std.proofs.Common.{◌≡◌, ◌↔◌, inl, inr, ℕ, List, [], ◌∷◌, ◌++◌, length, refl, ap, ◌∙◌, sym, subst, append_assoc, append-nil, arith, Bool, true, false, cond, Option, Some, None, Ok}
-use Rattle.std.specs.List.{AllByRecursion, concat}
-use Rattle.std.specs.Prelude.{filter, get_or, drop, unwrap_or}
+use Rattle.std.proofs.Common.{◌≡◌, ◌↔◌, inl, inr, ℕ, List, [], ◌∷◌, ◌++◌, length, refl, ap, ◌∙◌, sym, subst, append_assoc, append-nil, arith, Bool, true, Option, Some, None}
+use Rattle.std.specs.List.{AllByRecursion}
+use Rattle.std.specs.Prelude.{get_or, drop, unwrap_or}
 use Rattle.std.specs.Result.{result_ok}
-use Rattle.std.proofs.lemmas.List.Elements.{filter-append}
-use Rattle.base64.specs.Engines.{standard}
-use Rattle.base64.specs.GeneralPurpose.{decode_of}
-use Rattle.asn1show_lines.specs.Text.{digits_of}
-use Rattle.asn1show_lines.specs.Blocks.{BeginsBlock, EndsBlock, FirstBlock, DecodeBlocks, is_base64}
-use Rattle.asn1show_lines.specs.Reader.{digits_in, OpenBlockDecodes, DecodeRest, AwaitsFrom}
+use Rattle.asn1show_lines.specs.Blocks.{BeginsBlock, BlockDecodes, EndsBlock, IsInner, FirstBlock, DecodeBlocks}
+use Rattle.asn1show_lines.specs.Reader.{texts, OpenBlockDecodes, DecodeRest, AwaitsFrom}
+use Rattle.asn1show_lines.specs.declared.block.Line.{Line}
 
 abbrev prefix : List (List ℕ) → List ℕ
 prefix lines = get_or lines 0 []
@@ -31,7 +28,7 @@ first_after R line rest bytes not x (y ∷ ys) h =
       joined = ap (drop 1) e;
       none_before = (subst (AllByRecursion (λ l. BeginsBlock l → ⊥)) h x.none_before).1;
       begins = x.begins;
-      none_within = x.none_within;
+      inner = x.inner;
       ends = x.ends;
       decodes = x.decodes;
       others = x.others;
@@ -48,7 +45,7 @@ first_before R line rest bytes not x = record {
   joined = ap (λ z. line ∷ z) x.joined;
   none_before = (not, x.none_before);
   begins = x.begins;
-  none_within = x.none_within;
+  inner = x.inner;
   ends = x.ends;
   decodes = x.decodes;
   others = x.others;
@@ -77,7 +74,7 @@ opened R line rest bytes is x [] h =
       last = x.last;
       after = x.after;
       joined = ap (drop 1) e;
-      none_within = x.none_within;
+      inner = x.inner;
       ends = x.ends;
       decodes = x.decodes;
       others = x.others;
@@ -105,7 +102,7 @@ decode_from_opened (b ∷ more) line rest is x = record {
   joined = ap (λ z. line ∷ z) x.joined;
   none_before = tt;
   begins = is;
-  none_within = x.none_within;
+  inner = x.inner;
   ends = x.ends;
   decodes = x.decodes;
   others = x.others;
@@ -113,72 +110,80 @@ decode_from_opened (b ∷ more) line rest is x = record {
 
 -- ---- a line in a block
 
-digits_cond : (b : Bool) (line : List ℕ) (others : List (List ℕ)) →
-    digits_of (concat (cond b (line ∷ others) others)) ≡ cond b (digits_of line) [] ++ digits_of (concat others)
-digits_cond true line others = filter-append _ line (concat others)
-digits_cond false line others = refl
+one_more : (taken : List (List ℕ)) (line : List ℕ) (body : List (List ℕ)) → taken ++ (line ∷ body) ≡ (taken ++ (line ∷ [])) ++ body
+one_more taken line body = simp append_assoc
 
-digits_cons : (digits line : List ℕ) (body : List (List ℕ)) →
-    digits ++ digits_of (concat (filter is_base64 (line ∷ body))) ≡ (digits ++ digits_in line) ++ digits_of (concat (filter is_base64 body))
-digits_cons digits line body = ap (λ z. digits ++ z) (digits_cond (is_base64 line) line (filter is_base64 body)) ∙ simp append_assoc
-
-more_taken : (R : List (List ℕ) → Type 0) (digits line : List ℕ) (rest : List (List ℕ)) (bytes : List ℕ) → (EndsBlock line → ⊥) →
-    (x : OpenBlockDecodes R digits (line ∷ rest) bytes) (body : List (List ℕ)) → x.body ≡ body → OpenBlockDecodes R (digits ++ digits_in line) rest bytes
-more_taken R digits line rest bytes not x [] h =
+more_taken : (R : List (List ℕ) → Type 0) (taken : List (List ℕ)) (line : List ℕ) (rest : List (List ℕ)) (bytes : List ℕ) → (EndsBlock line → ⊥) →
+    (x : OpenBlockDecodes R taken (line ∷ rest) bytes) (body : List (List ℕ)) → x.body ≡ body → OpenBlockDecodes R (taken ++ (line ∷ [])) rest bytes
+more_taken R taken line rest bytes not x [] h =
     let e = x.joined ∙ ap (λ z. z ++ (x.last ∷ x.after)) h in
     absurd (not (subst EndsBlock (sym (ap prefix e)) x.ends))
-more_taken R digits line rest bytes not x (y ∷ ys) h =
+more_taken R taken line rest bytes not x (y ∷ ys) h =
     let e = x.joined ∙ ap (λ z. z ++ (x.last ∷ x.after)) h in
     let same : x.body ≡ line ∷ ys = h ∙ ap (λ z. z ∷ ys) (sym (ap prefix e)) in
-    let taken = ap (λ z. digits ++ digits_of (concat (filter is_base64 z))) same ∙ digits_cons digits line ys in
     record {
       body = ys;
       last = x.last;
       after = x.after;
       joined = ap (drop 1) e;
-      none_within = (subst (AllByRecursion (λ l. EndsBlock l → ⊥)) h x.none_within).1;
+      inner = (subst (AllByRecursion IsInner) h x.inner).1;
       ends = x.ends;
-      decodes = ap (decode_of standard) (sym taken) ∙ x.decodes;
+      decodes = subst (λ z. BlockDecodes z bytes) (ap (λ z. taken ++ z) same ∙ one_more taken line ys) x.decodes;
       others = x.others;
     }
 
-decode_within : (blocks : List (List ℕ)) (digits line : List ℕ) (rest : List (List ℕ)) → (EndsBlock line → ⊥) → DecodeRest (Some digits) blocks (line ∷ rest) →
-    DecodeRest (Some (digits ++ digits_in line)) blocks rest
-decode_within [] digits line rest not x = x
-decode_within (b ∷ more) digits line rest not x = more_taken (DecodeBlocks more) digits line rest b not x x.body refl
+module _ (taken new : List Line) (line : List ℕ) (rest : List (List ℕ)) (added : texts new ≡ texts taken ++ (line ∷ [])) where
+  decode_within : (blocks : List (List ℕ)) → (EndsBlock line → ⊥) → DecodeRest (Some taken) blocks (line ∷ rest) → DecodeRest (Some new) blocks rest
+  decode_within [] not x = x
+  decode_within (b ∷ more) not x =
+      subst (λ z. OpenBlockDecodes (DecodeBlocks more) z rest b) (sym added) (more_taken (DecodeBlocks more) (texts taken) line rest b not x x.body refl)
 
-decode_from_within : (blocks : List (List ℕ)) (digits line : List ℕ) (rest : List (List ℕ)) → (EndsBlock line → ⊥) →
-    DecodeRest (Some (digits ++ digits_in line)) blocks rest →
-    DecodeRest (Some digits) blocks (line ∷ rest)
-decode_from_within [] digits line rest not x = x
-decode_from_within (b ∷ more) digits line rest not x = record {
-  body = line ∷ x.body;
-  last = x.last;
-  after = x.after;
-  joined = ap (λ z. line ∷ z) x.joined;
-  none_within = (not, x.none_within);
-  ends = x.ends;
-  decodes = ap (decode_of standard) (digits_cons digits line x.body) ∙ x.decodes;
-  others = x.others;
-}
+  decode_from_within : (blocks : List (List ℕ)) → IsInner line → DecodeRest (Some new) blocks rest → DecodeRest (Some taken) blocks (line ∷ rest)
+  decode_from_within [] inner x = x
+  decode_from_within (b ∷ more) inner x = record {
+    body = line ∷ x.body;
+    last = x.last;
+    after = x.after;
+    joined = ap (λ z. line ∷ z) x.joined;
+    inner = (inner, x.inner);
+    ends = x.ends;
+    decodes = subst (λ z. BlockDecodes z b) (ap (λ z. z ++ x.body) added ∙ sym (one_more (texts taken) line x.body)) x.decodes;
+    others = x.others;
+  }
 
 -- ---- a line that ends a block
 
-pub record Ended (R : List (List ℕ) → Type 0) (digits : List ℕ) (rest : List (List ℕ)) (bytes : List ℕ) : Type 0 where
-  pub decodes : decode_of standard digits ≡ Ok bytes
+pub record Ended (R : List (List ℕ) → Type 0) (taken : List (List ℕ)) (rest : List (List ℕ)) (bytes : List ℕ) : Type 0 where
+  pub decodes : BlockDecodes taken bytes
   pub others : R rest
 
-ended : (R : List (List ℕ) → Type 0) (digits line : List ℕ) (rest : List (List ℕ)) (bytes : List ℕ) → EndsBlock line →
-    (x : OpenBlockDecodes R digits (line ∷ rest) bytes) (body : List (List ℕ)) → x.body ≡ body → Ended R digits rest bytes
-ended R digits line rest bytes is x [] h =
+ended : (R : List (List ℕ) → Type 0) (taken : List (List ℕ)) (line : List ℕ) (rest : List (List ℕ)) (bytes : List ℕ) → EndsBlock line →
+    (x : OpenBlockDecodes R taken (line ∷ rest) bytes) (body : List (List ℕ)) → x.body ≡ body → Ended R taken rest bytes
+ended R taken line rest bytes is x [] h =
     let e = x.joined ∙ ap (λ z. z ++ (x.last ∷ x.after)) h in
     record {
-      decodes = ap (decode_of standard) (sym (append-nil digits) ∙ sym (ap (λ z. digits ++ digits_of (concat (filter is_base64 z))) h)) ∙ x.decodes;
+      decodes = subst (λ z. BlockDecodes z bytes) (ap (λ z. taken ++ z) h ∙ append-nil taken) x.decodes;
       others = subst R (sym (ap (drop 1) e)) x.others;
     }
-ended R digits line rest bytes is x (y ∷ ys) h =
+ended R taken line rest bytes is x (y ∷ ys) h =
     let e = x.joined ∙ ap (λ z. z ++ (x.last ∷ x.after)) h in
-    absurd ((subst (AllByRecursion (λ l. EndsBlock l → ⊥)) h x.none_within).0 (subst EndsBlock (ap prefix e) is))
+    absurd ((subst (AllByRecursion IsInner) h x.inner).0.0 (subst EndsBlock (ap prefix e) is))
+
+-- ---- a line that begins another block
+
+cut_off : (R : List (List ℕ) → Type 0) (taken : List (List ℕ)) (line : List ℕ) (rest : List (List ℕ)) (bytes : List ℕ) → (EndsBlock line → ⊥) → BeginsBlock line →
+    (x : OpenBlockDecodes R taken (line ∷ rest) bytes) (body : List (List ℕ)) → x.body ≡ body → ⊥
+cut_off R taken line rest bytes not is x [] h =
+    let e = x.joined ∙ ap (λ z. z ++ (x.last ∷ x.after)) h in
+    not (subst EndsBlock (sym (ap prefix e)) x.ends)
+cut_off R taken line rest bytes not is x (y ∷ ys) h =
+    let e = x.joined ∙ ap (λ z. z ++ (x.last ∷ x.after)) h in
+    (subst (AllByRecursion IsInner) h x.inner).0.1 (subst BeginsBlock (ap prefix e) is)
+
+none_cut_off : (taken : List Line) (line : List ℕ) (rest : List (List ℕ)) → (EndsBlock line → ⊥) → BeginsBlock line → (blocks : List (List ℕ)) →
+    DecodeRest (Some taken) blocks (line ∷ rest) → ⊥
+none_cut_off taken line rest not is [] x = x
+none_cut_off taken line rest not is (b ∷ more) x = cut_off (DecodeBlocks more) (texts taken) line rest b not is x x.body refl
 
 -- ---- one line, where P is to hold of each block
 
@@ -195,26 +200,36 @@ module _ (P : List ℕ → Type 0) (line : List ℕ) (rest : List (List ℕ)) wh
     λ w. record { blocks = w.blocks; decode = decode_from_opened w.blocks line rest is w.decode; some = w.some; all = w.all },
   )
 
-  pub awaits_within : (digits : List ℕ) (any : Bool) → (EndsBlock line → ⊥) →
-      AwaitsFrom P (Some digits) any (line ∷ rest) ↔ AwaitsFrom P (Some (digits ++ digits_in line)) any rest
-  awaits_within digits any not = (
-    λ w. record { blocks = w.blocks; decode = decode_within w.blocks digits line rest not w.decode; some = w.some; all = w.all },
-    λ w. record { blocks = w.blocks; decode = decode_from_within w.blocks digits line rest not w.decode; some = w.some; all = w.all },
+  pub awaits_within : (taken new : List Line) (any : Bool) → texts new ≡ texts taken ++ (line ∷ []) → IsInner line →
+      AwaitsFrom P (Some taken) any (line ∷ rest) ↔ AwaitsFrom P (Some new) any rest
+  awaits_within taken new any added inner = (
+    λ w. record {
+      blocks = w.blocks;
+      decode = decode_within taken new line rest added w.blocks inner.0 w.decode;
+      some = w.some;
+      all = w.all;
+    },
+    λ w. record {
+      blocks = w.blocks;
+      decode = decode_from_within taken new line rest added w.blocks inner w.decode;
+      some = w.some;
+      all = w.all;
+    },
   )
 
-  after_end : (digits bytes : List ℕ) → EndsBlock line → decode_of standard digits ≡ Ok bytes → (blocks : List (List ℕ)) →
-      DecodeRest (Some digits) blocks (line ∷ rest) →
+  after_end : (taken : List Line) (bytes : List ℕ) → EndsBlock line → BlockDecodes (texts taken) bytes → (blocks : List (List ℕ)) →
+      DecodeRest (Some taken) blocks (line ∷ rest) →
       AllByRecursion P blocks → P bytes × AwaitsFrom P None true rest
-  after_end digits bytes is e [] decode all = absurd decode
-  after_end digits bytes is e (b ∷ more) decode all =
-      let x = ended (DecodeBlocks more) digits line rest b is decode decode.body refl in
-      let same : b ≡ bytes = ap (λ r. unwrap_or (result_ok r) []) (sym x.decodes ∙ e) in
+  after_end taken bytes is d [] decode all = absurd decode
+  after_end taken bytes is d (b ∷ more) decode all =
+      let x = ended (DecodeBlocks more) (texts taken) line rest b is decode decode.body refl in
+      let same : b ≡ bytes = ap (λ r. unwrap_or (result_ok r) []) (sym x.decodes.decodes ∙ d.decodes) in
       (subst P same all.0, record { blocks = more; decode = x.others; some = inl refl; all = all.1 })
 
-  pub awaits_ended : (digits bytes : List ℕ) (any : Bool) → EndsBlock line → decode_of standard digits ≡ Ok bytes →
-      AwaitsFrom P (Some digits) any (line ∷ rest) ↔ (P bytes × AwaitsFrom P None true rest)
-  awaits_ended digits bytes any is e = (
-    λ w. after_end digits bytes is e w.blocks w.decode w.all,
+  pub awaits_ended : (taken : List Line) (bytes : List ℕ) (any : Bool) → EndsBlock line → BlockDecodes (texts taken) bytes →
+      AwaitsFrom P (Some taken) any (line ∷ rest) ↔ (P bytes × AwaitsFrom P None true rest)
+  awaits_ended taken bytes any is d = (
+    λ w. after_end taken bytes is d w.blocks w.decode w.all,
     λ w. record {
       blocks = bytes ∷ w.1.blocks;
       decode = record {
@@ -222,9 +237,9 @@ module _ (P : List ℕ → Type 0) (line : List ℕ) (rest : List (List ℕ)) wh
         last = line;
         after = rest;
         joined = refl;
-        none_within = tt;
+        inner = tt;
         ends = is;
-        decodes = ap (decode_of standard) (append-nil digits) ∙ e;
+        decodes = subst (λ z. BlockDecodes z bytes) (sym (append-nil (texts taken))) d;
         others = w.1.decode;
       };
       some = inr (omega arith);
@@ -232,14 +247,17 @@ module _ (P : List ℕ → Type 0) (line : List ℕ) (rest : List (List ℕ)) wh
     },
   )
 
-  none_after_end : (digits : List ℕ) → EndsBlock line → ((bytes : List ℕ) → decode_of standard digits ≡ Ok bytes → ⊥) → (blocks : List (List ℕ)) →
-      DecodeRest (Some digits) blocks (line ∷ rest) → ⊥
-  none_after_end digits is not [] decode = decode
-  none_after_end digits is not (b ∷ more) decode = not b (ended (DecodeBlocks more) digits line rest b is decode decode.body refl).decodes
+  none_after_end : (taken : List Line) → EndsBlock line → ((bytes : List ℕ) → BlockDecodes (texts taken) bytes → ⊥) → (blocks : List (List ℕ)) →
+      DecodeRest (Some taken) blocks (line ∷ rest) → ⊥
+  none_after_end taken is not [] decode = decode
+  none_after_end taken is not (b ∷ more) decode = not b (ended (DecodeBlocks more) (texts taken) line rest b is decode decode.body refl).decodes
 
-  pub awaits_nothing : (digits : List ℕ) (any : Bool) → EndsBlock line → ((bytes : List ℕ) → decode_of standard digits ≡ Ok bytes → ⊥) →
-      AwaitsFrom P (Some digits) any (line ∷ rest) → ⊥
-  awaits_nothing digits any is not w = none_after_end digits is not w.blocks w.decode
+  pub awaits_nothing : (taken : List Line) (any : Bool) → EndsBlock line → ((bytes : List ℕ) → BlockDecodes (texts taken) bytes → ⊥) →
+      AwaitsFrom P (Some taken) any (line ∷ rest) → ⊥
+  awaits_nothing taken any is not w = none_after_end taken is not w.blocks w.decode
+
+  pub awaits_cut : (taken : List Line) (any : Bool) → (EndsBlock line → ⊥) → BeginsBlock line → AwaitsFrom P (Some taken) any (line ∷ rest) → ⊥
+  awaits_cut taken any not is w = none_cut_off taken line rest not is w.blocks w.decode
 
 -- ---- no line is left
 
@@ -247,9 +265,9 @@ no_last : (body : List (List ℕ)) (last : List ℕ) (after : List (List ℕ)) �
 no_last [] last after e = omega (arith, ap length e)
 no_last (x ∷ body) last after e = omega (arith, ap length e)
 
-pub none_left : (digits : Option (List ℕ)) (blocks : List (List ℕ)) → DecodeRest digits blocks [] → (digits ≡ None) × (blocks ≡ [])
+pub none_left : (taken : Option (List Line)) (blocks : List (List ℕ)) → DecodeRest taken blocks [] → (taken ≡ None) × (blocks ≡ [])
 unfolding DecodeBlocks
 none_left None [] decode = (refl, refl)
 none_left None (b ∷ more) decode = absurd (no_last decode.before decode.first (decode.body ++ (decode.last ∷ decode.after)) decode.joined)
-none_left (Some digits) [] decode = absurd decode
-none_left (Some digits) (b ∷ more) decode = absurd (no_last decode.body decode.last decode.after decode.joined)
+none_left (Some taken) [] decode = absurd decode
+none_left (Some taken) (b ∷ more) decode = absurd (no_last decode.body decode.last decode.after decode.joined)

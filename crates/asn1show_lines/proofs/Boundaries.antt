@@ -1,6 +1,6 @@
 -- Lines with the marks of PEM.
-use Rattle.std.proofs.Common.{◌≡◌, inl, inr, ℕ, ◌-◌, ◌+◌, ◌<◌, List, ◌++◌, length, take, drop, ap, ◌∙◌, sym, subst, arith, Bool, true, false, Option, Some, None, Bor}
-use Rattle.std.specs.Prelude.{codes, IfSome, IfNone, nat_eq}
+use Rattle.std.proofs.Common.{◌≡◌, inl, inr, ℕ, ◌-◌, ◌+◌, ◌<◌, List, ◌++◌, length, take, drop, refl, ap, ◌∙◌, sym, subst, arith, Bool, true, false, Option, Some, None, Bor}
+use Rattle.std.specs.Prelude.{◌↔◌, codes, IfSome, IfNone, IsTrue, nat_eq}
 use Rattle.std.specs.Cmp.Lexicographic.{pointwise}
 use Rattle.std.specs.List.{starts_with}
 use Rattle.std.specs.Option.{MatchOption}
@@ -8,7 +8,7 @@ use Rattle.std.specs.Str.{IsTrimAsciiEnd}
 use Rattle.std.proofs.lemmas.Bool.{cases_lt}
 use Rattle.std.proofs.lemmas.Bool.Decides.{Decides-eqb}
 use Rattle.std.proofs.lemmas.Slice.Eq.{starts_is, strip_prefix_is, strip_suffix_is}
-use Rattle.asn1show_lines.specs.Blocks.{Begins, BeginsBlock, begin_boundary}
+use Rattle.asn1show_lines.specs.Blocks.{Begins, begin_boundary}
 
 not_both : (b : Bool) → b ≡ true → b ≡ false → ⊥
 not_both b e f = absurd (cc)
@@ -39,6 +39,14 @@ prefix_found line boundary r e yes-r = (_, (starts_is Decides-eqb line boundary 
 pub prefix_missed : (line boundary : List ℕ) (r : Bool) → r ≡ starts_with nat_eq line boundary → r ≡ false → HasPrefix boundary line → ⊥
 prefix_missed line boundary r e no-r x = not_both r ((starts_is Decides-eqb line boundary r e).1 x.0 x.1) no-r
 
+-- the same of the text that is the line without its indentation
+pub prefix_tested : (line text boundary : List ℕ) (r : Bool) → text ≡ line → r ≡ starts_with nat_eq text boundary → IsTrue r ↔ HasPrefix boundary line
+prefix_tested line text boundary true same e = (λ u. subst (HasPrefix boundary) same (prefix_found text boundary true e refl), λ x. refl)
+prefix_tested line text boundary false same e = (
+  λ u. absurd (cc),
+  λ x. absurd (prefix_missed text boundary false e refl (subst (HasPrefix boundary) (sym same) x)),
+)
+
 -- `strip_prefix` and `strip_suffix`
 abbrev pub StripsPrefix : List ℕ → List ℕ → Option (Bor (List ℕ)) → Type 0
 StripsPrefix s p r =
@@ -66,9 +74,9 @@ label_found line rest trimmed (Some label) e t h = record {
 
 pub label_missed : (line rest trimmed : List ℕ) (r : Option (Bor (List ℕ))) → line ≡ begin_boundary ++ rest → IsTrimAsciiEnd rest trimmed →
     StripsSuffix trimmed (codes "-----") r →
-    IfNone r (BeginsBlock line → ⊥)
+    IfNone r ((label : List ℕ) → Begins line label → ⊥)
 label_missed line rest trimmed (Some label) e t h = tt
-label_missed line rest trimmed None e t h = λ x.
-    let same : x.1.others ≡ rest = ap (drop 11) (sym x.1.joined ∙ e) in
-    strip_suffix_is Decides-eqb trimmed (codes "-----") None h x.0
-    (trimmed_same rest trimmed (x.0 ++ codes "-----") t (subst (λ s. IsTrimAsciiEnd s (x.0 ++ codes "-----")) same x.1.trimmed))
+label_missed line rest trimmed None e t h = λ label x.
+    let same : x.others ≡ rest = ap (drop 11) (sym x.joined ∙ e) in
+    strip_suffix_is Decides-eqb trimmed (codes "-----") None h label
+    (trimmed_same rest trimmed (label ++ codes "-----") t (subst (λ s. IsTrimAsciiEnd s (label ++ codes "-----")) same x.trimmed))

@@ -1,9 +1,9 @@
 -- The first line of a text, and what is left of it.
-use Rattle.std.proofs.Common.{◌≡◌, ◌==◌, ℕ, ◌+◌, List, [], ◌∷◌, length, take, drop, refl, ap, ◌∙◌, sym, arith, Bool, true, false, cond, ltb, ltb-true, ltb-false, Option, Some, None, Bor, suc}
+use Rattle.std.proofs.Common.{◌≡◌, ◌==◌, ℕ, ◌+◌, ◌<◌, ◌≤◌, List, [], ◌∷◌, length, take, drop, refl, ap, ◌∙◌, sym, arith, Bool, true, false, not, cond, ltb, ltb-true, ltb-false, Option, Some, None, Bor, suc}
 use Rattle.std.specs.Prelude.{unwrap_or}
 use Rattle.std.specs.List.{position_or_len}
 use Rattle.std.proofs.lemmas.List.Elements.{All-from_get_or}
-use Rattle.std.proofs.lemmas.List.Sums.{fails_before_first}
+use Rattle.std.proofs.lemmas.List.Sums.{fails_before_first, prefix_len-le-length}
 use Rattle.std.proofs.lemmas.List.Splits.{slice_split_first, slice_split_none}
 use Rattle.asn1show_lines.specs.Blocks.{lines_of}
 
@@ -29,6 +29,23 @@ last_line text e =
     let le = ltb-false _ _ (not_picked _ _ e) in
     slice_split_none (λ c. c == 10) text (All-from_get_or (λ c. (c == 10) ≡ false) text 0 (λ k l. fails_before_first (λ c. c == 10) text k 0 (omega
     (arith, le, l))))
+
+-- the place of the first element that passes, as `position` returns it
+abbrev pub Finds : {X : Type 0} → (X → Bool) → List X → Option ℕ → Type 0
+Finds p xs r = r ≡ cond (ltb (position_or_len p xs) (length xs)) (Some (position_or_len p xs)) None
+
+pub found_first : {X : Type 0} (p : X → Bool) (xs : List X) (r : Option ℕ) (n : ℕ) → Finds p xs r → r ≡ Some n → n ≡ position_or_len p xs
+found_first p xs r n first e = sym (picked _ _ n (sym e ∙ first)).1
+
+pub found_within : {X : Type 0} (p : X → Bool) (xs : List X) (r : Option ℕ) (n : ℕ) → Finds p xs r → r ≡ Some n → position_or_len p xs < length xs
+found_within p xs r n first e = ltb-true _ _ (picked _ _ n (sym e ∙ first)).0
+
+-- no element passes
+pub past_all : {X : Type 0} (p : X → Bool) (xs : List X) (r : Option ℕ) → Finds p xs r → r ≡ None → length xs ≤ position_or_len p xs
+past_all p xs r first e = ltb-false _ _ (not_picked _ _ (sym e ∙ first))
+
+pub none_found : {X : Type 0} (p : X → Bool) (xs : List X) (r : Option ℕ) → Finds p xs r → r ≡ None → length xs ≡ position_or_len p xs
+none_found p xs r first e = omega (arith, past_all p xs r first e, prefix_len-le-length (λ x. not (p x)) xs)
 
 -- how much is left
 abbrev pub size_left : Option (Bor (List ℕ)) → ℕ

@@ -3,3 +3,7 @@ pub mod Boundaries
 pub mod Taking
 pub mod Detected
 pub mod Cut
+pub mod Malformed
+pub mod Body
+pub mod Opening
+pub mod FirstError

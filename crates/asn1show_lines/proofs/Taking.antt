@@ -1,29 +1,21 @@
 -- What a reader of PEM awaits after a line that it takes.
-use Rattle.std.proofs.Common.{◌≡◌, ◌≢◌, ◌⊎◌, inl, inr, ◌↔◌, ℕ, ◌≤◌, List, [], ◌∷◌, length, refl, ap, sym, subst, arith, Bool, true, false, Option, Some, None, Result, Ok, Err, MatchResult}
-use Rattle.std.specs.Prelude.{IsOkAnd, OnOk, IfOk, IfErr, unwrap_or}
-use Rattle.asn1show_lines.specs.Blocks.{DecodeBlocks}
+use Rattle.std.proofs.Common.{◌≡◌, ◌≢◌, ◌⊎◌, inl, inr, ◌↔◌, ℕ, ◌≤◌, List, [], ◌∷◌, ◌++◌, length, refl, ap, ◌∙◌, sym, subst, arith, Bool, true, false, Option, Some, None, Result, Ok, Err}
+use Rattle.std.specs.Global.{Global}
+use Rattle.std.specs.Prelude.{OnOk, unwrap_or, Vec}
+use Rattle.std.specs.List.{concat, list_any}
+use Rattle.std.proofs.lemmas.List.{map-append}
 use Rattle.yasna_base.specs.declared.error.ASN1ErrorKind.{ASN1ErrorKind}
 use Rattle.asn1show_walk.specs.Errors.{IsExternal, WalkFails}
 use Rattle.asn1show_walk.specs.declared.error.WalkError.{WalkError}
-use Rattle.asn1show_walk.proofs.WalkFails.{fails_by}
-use Rattle.asn1show_lines.specs.Text.{IsOutOfMemory}
-use Rattle.asn1show_lines.specs.Reader.{AwaitsFrom, Awaits, TakesLine, DecodesNothing, open_digits, has_any, outside, begins, within, ends}
+use Rattle.asn1show_walk.specs.declared.error.WalkError.TheVariants.{Malformed, Memory, Output, ClosedOutput}
+use Rattle.asn1show_lines.specs.Blocks.{says_encrypted, BeginsBlock, BlockDecodes, DecodeBlocks, EndsBlock}
+use Rattle.asn1show_lines.specs.Text.{IsBase64, IsOutOfMemory}
+use Rattle.asn1show_lines.specs.Reader.{texts, AwaitsFrom, Awaits, BlockHolds, BlockLacks, IsCutOff, IsDecoded, NoBlock, TakesLine, next_offset, open_lines, has_any, outside, begins, within, ends, cuts, no_blank, encrypted, no_body, no_base64}
+use Rattle.asn1show_lines.specs.declared.block.Line.{Line}
 use Rattle.asn1show_lines.specs.declared.pem.PemReader.{PemReader}
-use Rattle.asn1show_lines.proofs.Blocks.{awaits_outside, awaits_begun, awaits_within, awaits_ended, awaits_nothing, none_left}
-
--- ---- `Result::map` by `Some`
-pub ok_by_map : {A E : Type 0} (r : Result A E) (m : Result (Option A) E) (D : A → Type 0) (P : Option A → Type 0) →
-    MatchResult r (λ x. IsOkAnd m (λ y. y ≡ Some x)) (λ e. m ≡ Err e) → IfOk r D → ((x : A) → D x → P (Some x)) → IfOk m P
-ok_by_map (Ok x) (Ok y) D P h d f = subst P (sym h) (f x d)
-ok_by_map (Ok x) (Err e) D P h d f = tt
-ok_by_map (Err e) m D P h d f = subst (λ z. IfOk z P) (sym h) tt
-
-pub err_by_map : {A E : Type 0} (r : Result A E) (m : Result (Option A) E) (N Q : E → Type 0) →
-    MatchResult r (λ x. IsOkAnd m (λ y. y ≡ Some x)) (λ e. m ≡ Err e) →
-    IfErr r N → ((e : E) → N e → Q e) → IfErr m Q
-err_by_map (Ok x) (Ok y) N Q h n f = tt
-err_by_map (Ok x) (Err e) N Q h n f = absurd h
-err_by_map (Err e) m N Q h n f = subst (λ z. IfErr z Q) (sym h) (f e n)
+use Rattle.asn1show_lines.proofs.Body.{any_found, any_text}
+use Rattle.asn1show_lines.proofs.Malformed.{never_malformed}
+use Rattle.asn1show_lines.proofs.Blocks.{awaits_outside, awaits_begun, awaits_within, awaits_ended, awaits_nothing, awaits_cut, none_left}
 
 -- ---- both clauses of an Ok
 pub on_ok_both : {T E : Type 0} (r : Result T E) {A B C : Type 0} → OnOk r A → OnOk r B → (A → B → C) → OnOk r C
@@ -34,47 +26,85 @@ on_ok_both (Err e) a b f = tt
 is_external : (f : WalkError) → IsOutOfMemory f → IsExternal f
 is_external f e = subst IsExternal (sym e) tt
 
-pub from_out_of_memory : {P Q : ℕ → ASN1ErrorKind → Type 0} (f : WalkError) → ((o : ℕ) (k : ASN1ErrorKind) → P o k → Q o k) → WalkFails IsOutOfMemory P f →
-    WalkFails IsExternal Q f
-from_out_of_memory f g (inl e) = inl (is_external f e)
-from_out_of_memory f g (inr x) = fails_by IsExternal f g (inr x)
+-- an error is of the device, or of the input
+pub by_origin : (f : WalkError) → WalkFails IsExternal (λ o k. IsExternal f → ⊥) f
+by_origin (Malformed o k e) = inr (λ x. x)
+by_origin Memory = inl tt
+by_origin Output = inl tt
+by_origin ClosedOutput = inl tt
+
+-- ---- a block that encodes nothing
+not_both : {b : Bool} → b ≡ true → b ≡ false → ⊥
+not_both e f = absurd (cc)
+
+pub decodes_nothing : (lines : List Line) (end o : ℕ) (k : ASN1ErrorKind) → NoBlock lines end o k → (bytes : List ℕ) → BlockDecodes (texts lines) bytes → ⊥
+decodes_nothing lines end o k (no_body (no_blank h b p q)) bytes x = not_both (x.headers_end h) b
+decodes_nothing lines end o k (no_body (encrypted headers header e found p q)) bytes x =
+    not_both (any_text says_encrypted headers ∙ any_found (λ l. says_encrypted l.text.now) headers header found)
+    (ap (λ z. list_any says_encrypted z) e ∙ x.is_plain)
+decodes_nothing lines end o k (no_base64 body b n) bytes x = n.none bytes (subst (λ z. IsBase64 (concat z) bytes) (sym b.same) x.decodes)
 
 -- ---- one line
+last_text : (lines : List Line) (last : Line) (line : List ℕ) → last.text.now ≡ line → texts (lines ++ (last ∷ [])) ≡ texts lines ++ (line ∷ [])
+last_text lines last line e = map-append (λ l. l.text.now) lines (last ∷ []) ∙ ap (λ z. texts lines ++ (z ∷ [])) e
+
 module _ (P : List ℕ → Type 0) (old new : PemReader) (line : List ℕ) (rest : List (List ℕ)) where
-  by_state : (d e : Option (List ℕ)) → open_digits old ≡ d → open_digits new ≡ e → has_any new ≡ has_any old →
+  by_state : (d e : Option (List Line)) → open_lines old ≡ d → open_lines new ≡ e → has_any new ≡ has_any old →
       (AwaitsFrom P d (has_any old) (line ∷ rest) ↔ AwaitsFrom P e (has_any old) rest) → Awaits P old (line ∷ rest) ↔ Awaits P new rest
   by_state d e f g a x =
-      subst (λ z. AwaitsFrom P z (has_any old) (line ∷ rest) ↔ AwaitsFrom P (open_digits new) (has_any new) rest) (sym f)
+      subst (λ z. AwaitsFrom P z (has_any old) (line ∷ rest) ↔ AwaitsFrom P (open_lines new) (has_any new) rest) (sym f)
       (subst (λ z. AwaitsFrom P d (has_any old) (line ∷ rest) ↔ AwaitsFrom P z (has_any new) rest) (sym g)
       (subst (λ z. AwaitsFrom P d (has_any old) (line ∷ rest) ↔ AwaitsFrom P e z rest) (sym a) x))
 
   pub goes_on : TakesLine old line None new → Awaits P old (line ∷ rest) ↔ Awaits P new rest
   goes_on (outside f none s g a) = by_state None None f g a (awaits_outside P line rest (has_any old) none)
   goes_on (begins f begun s g a) = by_state None (Some []) f g a (awaits_begun P line rest (has_any old) begun)
-  goes_on (within d f none s g a) = by_state (Some d) _ f g a (awaits_within P line rest d (has_any old) none)
-  goes_on (ends d b f end s e g a) = absurd (cc)
+  goes_on (within lines last f inner s t o g a) =
+      by_state (Some lines) _ f g a (awaits_within P line rest lines _ (has_any old) (last_text lines last line t) inner)
+  goes_on (ends lines r f end s d g a) = absurd (cc)
+  goes_on (cuts lines r f none is s c g a) = absurd (cc)
 
-  -- what is awaited, where a block ends that says these bytes
-  ended : (bytes : List ℕ) → TakesLine old line (Some bytes) new → Awaits P old (line ∷ rest) ↔ (P bytes × Awaits P new rest)
-  ended bytes (outside f none s g a) = absurd (cc)
-  ended bytes (begins f begun s g a) = absurd (cc)
-  ended bytes (within d f none s g a) = absurd (cc)
-  ended bytes (ends d b f end s e g a) =
-      subst (λ z. AwaitsFrom P z (has_any old) (line ∷ rest) ↔ (P bytes × AwaitsFrom P (open_digits new) (has_any new) rest)) (sym f)
-      (subst (λ z. AwaitsFrom P (Some d) (has_any old) (line ∷ rest) ↔ (P bytes × AwaitsFrom P z (has_any new) rest)) (sym g)
-      (subst (λ z. AwaitsFrom P (Some d) (has_any old) (line ∷ rest) ↔ (P bytes × AwaitsFrom P None z rest)) (sym a)
-      (subst (λ z. AwaitsFrom P (Some d) (has_any old) (line ∷ rest) ↔ (P z × AwaitsFrom P None true rest)) (ap (λ z. unwrap_or z []) (sym s))
-      (awaits_ended P line rest d b (has_any old) end e))))
+  -- what is awaited, where a block ends that has these bytes
+  ended : (lines : List Line) (bytes : List ℕ) → open_lines old ≡ Some lines → EndsBlock line → BlockDecodes (texts lines) bytes → open_lines new ≡ None →
+      has_any new ≡ true → Awaits P old (line ∷ rest) ↔ (P bytes × Awaits P new rest)
+  ended lines bytes f end d g a =
+      subst (λ z. AwaitsFrom P z (has_any old) (line ∷ rest) ↔ (P bytes × AwaitsFrom P (open_lines new) (has_any new) rest)) (sym f)
+      (subst (λ z. AwaitsFrom P (Some lines) (has_any old) (line ∷ rest) ↔ (P bytes × AwaitsFrom P z (has_any new) rest)) (sym g)
+      (subst (λ z. AwaitsFrom P (Some lines) (has_any old) (line ∷ rest) ↔ (P bytes × AwaitsFrom P None z rest)) (sym a)
+      (awaits_ended P line rest lines bytes (has_any old) end d)))
 
-  pub goes_on_after : (bytes : List ℕ) → TakesLine old line (Some bytes) new → P bytes → Awaits P old (line ∷ rest) ↔ Awaits P new rest
-  goes_on_after bytes t p = let x = ended bytes t in ((λ w. (x.0 w).1), (λ w. x.1 (p, w)))
+  same_block : (r s : Result (Vec ℕ Global) WalkError) → Some r ≡ Some s → s ≡ r
+  same_block r s e = ap (λ z. unwrap_or z r) (sym e)
 
-  pub ends_there : (bytes : List ℕ) → TakesLine old line (Some bytes) new → (P bytes → ⊥) → Awaits P old (line ∷ rest) → ⊥
-  ends_there bytes t none w = none ((ended bytes t).0 w).0
+  pub goes_on_after : (r : Result (Vec ℕ Global) WalkError) → TakesLine old line (Some r) new → BlockHolds P r → Awaits P old (line ∷ rest) ↔ Awaits P new rest
+  goes_on_after (Err f) t holds = absurd holds
+  goes_on_after (Ok bytes) (outside f none s g a) holds = absurd (cc)
+  goes_on_after (Ok bytes) (begins f begun s g a) holds = absurd (cc)
+  goes_on_after (Ok bytes) (within lines last f inner s t o g a) holds = absurd (cc)
+  goes_on_after (Ok bytes) (ends lines r f end s d g a) holds =
+      let x = ended lines bytes.items f end (subst (IsDecoded lines (next_offset old)) (same_block (Ok bytes) r s) d) g a in
+      ((λ w. (x.0 w).1), (λ w. x.1 (holds, w)))
+  goes_on_after (Ok bytes) (cuts lines r f none is s c g a) holds = absurd (subst (IsCutOff (next_offset old)) (same_block (Ok bytes) r s) c)
 
-pub decodes_nothing : (P : List ℕ → Type 0) (old : PemReader) (line : List ℕ) → DecodesNothing old line → (rest : List (List ℕ)) → Awaits P old (line ∷ rest) → ⊥
-decodes_nothing P old line x rest w =
-    awaits_nothing P line rest x.digits (has_any old) x.ends x.none (subst (λ z. AwaitsFrom P z (has_any old) (line ∷ rest)) x.taken w)
+  by_cut : (lines : List Line) → open_lines old ≡ Some lines → (EndsBlock line → ⊥) → BeginsBlock line → Awaits P old (line ∷ rest) → ⊥
+  by_cut lines f none is w = awaits_cut P line rest lines (has_any old) none is (subst (λ z. AwaitsFrom P z (has_any old) (line ∷ rest)) f w)
+
+  by_error : (lines : List Line) (f : WalkError) → WalkFails IsOutOfMemory (NoBlock lines (next_offset old)) f → (IsExternal f → ⊥) →
+      open_lines old ≡ Some lines → EndsBlock line → Awaits P old (line ∷ rest) → ⊥
+  by_error lines f (inl e) none o end w = none (is_external f e)
+  by_error lines f (inr x) none o end w =
+      never_malformed (NoBlock lines (next_offset old)) f x (λ p k n. awaits_nothing P line rest lines (has_any old) end (decodes_nothing lines (next_offset old) p k n)
+      (subst (λ z. AwaitsFrom P z (has_any old) (line ∷ rest)) o w))
+
+  pub ends_there : (r : Result (Vec ℕ Global) WalkError) → TakesLine old line (Some r) new → BlockLacks P r → Awaits P old (line ∷ rest) → ⊥
+  ends_there r (outside f none s g a) lacks w = absurd (cc)
+  ends_there r (begins f begun s g a) lacks w = absurd (cc)
+  ends_there r (within lines last f inner s t o g a) lacks w = absurd (cc)
+  ends_there r (cuts lines q f none is s c g a) lacks w = by_cut lines f none is w
+  ends_there (Ok bytes) (ends lines q f end s d g a) lacks w =
+      lacks ((ended lines bytes.items f end (subst (IsDecoded lines (next_offset old)) (same_block (Ok bytes) q s) d) g a).0 w).0
+  ends_there (Err e) (ends lines q f end s d g a) lacks w =
+      by_error lines e (subst (IsDecoded lines (next_offset old)) (same_block (Err e) q s) d) lacks f end w
 
 -- ---- no line is left
 none_awaited : {any : Bool} {blocks : List (List ℕ)} → any ≡ false → blocks ≡ [] → (any ≡ true) ⊎ (1 ≤ length blocks) → ⊥
@@ -82,13 +112,13 @@ none_awaited n e (inl y) = absurd (cc)
 none_awaited n e (inr x) = omega (arith, ap length e, x)
 
 -- nothing more is awaited
-pub nothing_awaited : (P : List ℕ → Type 0) (reader : PemReader) → open_digits reader ≡ None → has_any reader ≡ true → Awaits P reader []
+pub nothing_awaited : (P : List ℕ → Type 0) (reader : PemReader) → open_lines reader ≡ None → has_any reader ≡ true → Awaits P reader []
 unfolding DecodeBlocks
 nothing_awaited P reader d a =
     subst (λ z. AwaitsFrom P z (has_any reader) []) (sym d) (subst (λ z. AwaitsFrom P None z []) (sym a)
     (record { blocks = []; decode = tt; some = inl refl; all = tt }))
 
 -- more is awaited, and no line is left
-pub awaited_in_vain : (P : List ℕ → Type 0) (reader : PemReader) → (open_digits reader ≢ None) ⊎ (has_any reader ≡ false) → Awaits P reader [] → ⊥
-awaited_in_vain P reader (inl n) w = n (none_left (open_digits reader) w.blocks w.decode).0
-awaited_in_vain P reader (inr n) w = none_awaited n (none_left (open_digits reader) w.blocks w.decode).1 w.some
+pub awaited_in_vain : (P : List ℕ → Type 0) (reader : PemReader) → (open_lines reader ≢ None) ⊎ (has_any reader ≡ false) → Awaits P reader [] → ⊥
+awaited_in_vain P reader (inl n) w = n (none_left (open_lines reader) w.blocks w.decode).0
+awaited_in_vain P reader (inr n) w = none_awaited n (none_left (open_lines reader) w.blocks w.decode).1 w.some

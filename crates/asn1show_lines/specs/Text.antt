@@ -1,6 +1,7 @@
 -- Bytes as text, in hexadecimal and in base64 (RFC 4648, 4).
-use Rattle.std.specs.Prelude.{◌≡◌, ◌==◌, ◌||◌, not, ℕ, Bool, List, length, filter, Ok}
-use Rattle.std.specs.Char.{is_ascii_whitespace}
+use Rattle.std.specs.Prelude.{◌≡◌, ◌==◌, ◌||◌, ◌+◌, ◌-◌, ◌^◌, min, not, nat_eq, ℕ, Bool, cond, List, [], ◌∷◌, drop, filter, Ok}
+use Rattle.std.specs.Char.{is_ascii_alphanumeric, is_ascii_hexdigit, is_ascii_whitespace}
+use Rattle.std.specs.List.{position_or_len, starts_with}
 use Rattle.hex.specs.Hex.{decode_of as hex_of}
 use Rattle.base64.specs.Engines.{standard}
 use Rattle.base64.specs.GeneralPurpose.{decode_of as base64_of}
@@ -13,11 +14,23 @@ use Rattle.asn1show_walk.specs.declared.error.WalkError.TheVariants.{Memory}
 abbrev pub IsOutOfMemory : WalkError → Type 0
 IsOutOfMemory f = f ≡ Memory
 
--- a separator of digits: a space, a line end or a colon
+-- the byte order mark in UTF-8 (U+FEFF)
+abbrev pub byte_order_mark : List ℕ
+byte_order_mark = 239 ∷ 187 ∷ 191 ∷ []
+
+-- the text of an input: a byte order mark at its start is no part of it
+abbrev pub text_of : List ℕ → List ℕ
+text_of input = cond (starts_with nat_eq input byte_order_mark) (drop 3 input) input
+
+-- a separator of hexadecimal digits: a space, a line end or a colon
 abbrev pub is_between : ℕ → Bool
 is_between c = is_ascii_whitespace c || c == 58
 
--- the digits of a text
+-- an octet of a text in hexadecimal
+abbrev pub is_in_hex : ℕ → Bool
+is_in_hex c = is_ascii_hexdigit c || is_between c
+
+-- the hexadecimal digits of a text
 abbrev pub digits_of : List ℕ → List ℕ
 digits_of text = filter (λ c. not (is_between c)) text
 
@@ -25,22 +38,24 @@ digits_of text = filter (λ c. not (is_between c)) text
 abbrev pub IsHex : List ℕ → List ℕ → Type 0
 IsHex text bytes = hex_of (digits_of text) ≡ Ok bytes
 
--- a text encodes no bytes in hexadecimal, which is reported at its end
-pub record IsNoHex (text : List ℕ) (offset : ℕ) (kind : ASN1ErrorKind) : Type 0 where
+-- a text that begins at an offset encodes no bytes in hexadecimal: its first octet that is neither a digit nor a separator is reported, else its end
+pub record IsNoHex (text : List ℕ) (start offset : ℕ) (kind : ASN1ErrorKind) : Type 0 where
   pub none : (bytes : List ℕ) → IsHex text bytes → ⊥
-  pub place : offset ≡ length text
+  pub place : offset ≡ min (start + position_or_len (λ c. not (is_in_hex c)) text) (2 ^ 64 - 1)
   pub invalid : kind ≡ Invalid
+
+-- white space or a digit of base64 (padding, `=`, is none)
+abbrev pub is_in_base64 : ℕ → Bool
+is_in_base64 c = is_ascii_whitespace c || is_ascii_alphanumeric c || c == 43 || c == 47
+
+-- the octets of a text but white space: its digits of base64 and their padding, if it is base64
+abbrev pub base64_of_text : List ℕ → List ℕ
+base64_of_text text = filter (λ c. not (is_ascii_whitespace c)) text
 
 -- digits encode the bytes in base64
 abbrev pub Base64Decodes : List ℕ → List ℕ → Type 0
 Base64Decodes digits bytes = base64_of standard digits ≡ Ok bytes
 
--- digits up to an offset encode no bytes in base64, which is reported there
-pub record IsNoBase64 (digits : List ℕ) (end offset : ℕ) (kind : ASN1ErrorKind) : Type 0 where
-  pub none : (bytes : List ℕ) → Base64Decodes digits bytes → ⊥
-  pub place : offset ≡ end
-  pub invalid : kind ≡ Invalid
-
 -- a text encodes the bytes in base64
 abbrev pub IsBase64 : List ℕ → List ℕ → Type 0
-IsBase64 text bytes = Base64Decodes (digits_of text) bytes
+IsBase64 text bytes = Base64Decodes (base64_of_text text) bytes

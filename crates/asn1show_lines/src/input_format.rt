@@ -1,21 +1,21 @@
 //! The format of an input.
-ghost use Rattle.std.specs.Prelude.{◌↔◌, ◌||◌, IsTrue, Any};
+ghost use Rattle.std.specs.Prelude.{◌↔◌, IsTrue, Any};
 ghost use Rattle.std.specs.Char.{is_ascii_hexdigit};
 ghost use Rattle.std.specs.List.{AllByRecursion};
-ghost use Rattle.asn1show_lines.specs.Input.{BeginsAfterText, AreHexDigits, IsDetected, IsText};
-ghost use Rattle.asn1show_lines.specs.Text.{is_between};
+ghost use Rattle.asn1show_lines.specs.Input.{BeginsAfterText, AreHexDigits, IsDetected, IsDetectedIn, IsText};
+ghost use Rattle.asn1show_lines.specs.Text.{is_in_hex};
 
-use crate::digits::is_between_digits;
-use crate::pem::{BEGIN, cut_line};
+use crate::digits::{is_in_hex, text_of};
+use crate::pem::{begins_as_block, cut_line};
 
 /// The format of an input.
 #[derive(Clone, Copy)]
 pub enum InputFormat {
     /// The bytes themselves.
     Bytes,
-    /// Hexadecimal digits, with spaces, line ends and colons between them.
+    /// Hexadecimal digits, with spaces, line ends and colons between them. A byte order mark may be before.
     Hex,
-    /// Blocks in base64 between lines, with any text around them.
+    /// Blocks in base64 between lines, with any text around them. A byte order mark may be before.
     Pem,
 }
 
@@ -32,7 +32,7 @@ fn has_block(input: &[u8]) -> bool
     let mut left = Some(input);
     while let Some(text) = left {
         let (line, after) = cut_line(text);
-        if line.starts_with(BEGIN) {
+        if begins_as_block(line) {
             return true;
         }
         if !is_text(line) {
@@ -51,9 +51,9 @@ fn has_digit(input: &[u8]) -> bool
 
 // Whether a text is only digits, and what may be between them.
 fn are_digits(input: &[u8]) -> bool
-    ensures { IsTrue result ↔ AllByRecursion (λ c. IsTrue (is_ascii_hexdigit c || is_between c)) input.now }
+    ensures { IsTrue result ↔ AllByRecursion (λ c. IsTrue (is_in_hex c)) input.now }
 {
-    input.iter().all(|octet| octet.is_ascii_hexdigit() || is_between_digits(*octet))
+    input.iter().all(|octet| is_in_hex(*octet))
 }
 
 fn is_hexadecimal(input: &[u8]) -> bool
@@ -62,15 +62,22 @@ fn is_hexadecimal(input: &[u8]) -> bool
     are_digits(input) && has_digit(input)
 }
 
-/// Detects the format of an input.
-pub fn format_of(input: &[u8]) -> InputFormat
-    ensures { IsDetected input.now result }
+// The format of a text.
+fn text_format(text: &[u8]) -> InputFormat
+    ensures { IsDetectedIn text.now result }
 {
-    if has_block(input) {
+    if has_block(text) {
         InputFormat::Pem
-    } else if is_hexadecimal(input) {
+    } else if is_hexadecimal(text) {
         InputFormat::Hex
     } else {
         InputFormat::Bytes
     }
+}
+
+/// Detects the format of an input.
+pub fn format_of(input: &[u8]) -> InputFormat
+    ensures { IsDetected input.now result }
+{
+    text_format(text_of(input))
 }

@@ -6,10 +6,12 @@
 //! |---|---|
 //! | `input_format` | the format of an input |
 //! | `digits` | bytes from digits, in hexadecimal and in base64 |
-//! | `pem` | blocks of PEM |
+//! | `block` | the bytes of a block of PEM, from its lines |
+//! | `pem` | blocks of PEM, line by line |
 //! | `lines` | an input from its text to its lines |
 #![tactic(auto)]
 
+mod block;
 mod digits;
 mod input_format;
 mod lines;

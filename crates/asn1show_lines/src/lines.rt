@@ -1,20 +1,20 @@
 //! An input from its text to its lines.
-ghost use Rattle.std.specs.Prelude.{◌≡◌, ◌≤◌, length, IfErr, OnOk, Some};
+ghost use Rattle.std.specs.Prelude.{◌≡◌, ◌≢◌, ◌⊎◌, ◌≤◌, true, false, length, IfErr, OnOk, None, Some};
 ghost use Rattle.yasna_base.specs.Grammar.{max_depth};
 ghost use Rattle.yasna_base.specs.Raw.{IsRaw, IsJoining};
 ghost use Rattle.asn1show_lines.specs.Input.{IsTakenAs, HoldsElements, HoldsNone};
-ghost use Rattle.asn1show_lines.specs.Reader.{GoesOn, NeverComes};
+ghost use Rattle.asn1show_lines.specs.Reader.{has_any, open_lines, BlockHolds, BlockLacks, GoesOn, IsFirstError, NeverComes};
 ghost use Rattle.asn1show_lines.specs.declared.input_format.InputFormat.{InputFormat};
 ghost use Rattle.asn1show_lines.specs.declared.input_format.InputFormat.TheVariants.{Bytes, Hex, Pem};
 ghost use Rattle.asn1show_walk.specs.Errors.{IsExternal, WalkFails};
 ghost use Rattle.asn1show_walk.specs.Reading.{NoElements};
 ghost use Rattle.asn1show_walk.specs.WellFormed.{AreElements};
 
-use crate::digits::decode_hex;
+use crate::digits::{decode_hex, text_of};
 use crate::input_format::{InputFormat, format_of};
 use crate::pem::{Block, PemReader, cut_line};
 use asn1show_printer::{LineBuffer, Names, Printer, Style, write_quoted};
-use asn1show_walk::{WalkError, list_input};
+use asn1show_walk::{Expected, WalkError, list_input};
 use std::alloc::Global;
 use std::io::Write;
 use yasna_base::mode::BERMode;
@@ -62,25 +62,73 @@ fn line_of(alloc: Global, text: &str) -> LineBuffer {
     line
 }
 
-// The line of a block of PEM, up to the count of its bytes.
+// The line of a block of PEM, up to its label.
 fn block_line(alloc: Global, label: &[u8]) -> LineBuffer {
     let mut line = line_of(alloc, "input: PEM ");
     write_quoted(&mut line, label);
-    line.write_str(", ");
     line
 }
 
+// Lists the elements of a block.
 fn show_block<W: Write>(
     out: &mut W,
     mode: BERMode,
     style: Style<'_>,
     block: &Block<'_>,
 ) -> Result<(), WalkError>
-    ensures elements { OnOk result (AreElements max_depth mode block.now.bytes.items) }
-    ensures fails { IfErr result (λ f. WalkFails IsExternal (NoElements max_depth mode block.now.bytes.items) f) }
+    ensures elements { OnOk result (BlockHolds (AreElements max_depth mode) block.now.bytes) }
+    ensures fails { IfErr result (λ f. WalkFails IsExternal (λ offset kind. BlockLacks (AreElements max_depth mode) block.now.bytes) f) }
 {
-    let line = block_line(style.alloc, block.label);
-    show_counted(out, mode, style, line, block.bytes.as_slice())
+    let mut line = block_line(style.alloc, block.label);
+    match &block.bytes {
+        Ok(bytes) => {
+            line.write_str(", ");
+            show_counted(out, mode, style, line, bytes.as_slice())
+        }
+        Err(error) => {
+            line.end(out)?;
+            Err(*error)
+        }
+    }
+}
+
+// The word that a line begins with about a block that isn't listed, or not to its end.
+fn defect(error: &WalkError) -> &'static str {
+    match error {
+        WalkError::Malformed {
+            expected: Expected::PlainBlock,
+            ..
+        } => "encrypted: ",
+        _ => "malformed: ",
+    }
+}
+
+// Prints why a block isn't listed, or not to its end.
+fn show_defect<W: Write>(out: &mut W, alloc: Global, error: &WalkError) -> Result<(), WalkError>
+    ensures { IfErr result IsExternal }
+{
+    let mut line = line_of(alloc, defect(error));
+    write!(line, "{error}");
+    line.end(out)
+}
+
+// Lists the elements of a block, and prints after them why it is malformed, if it is.
+fn show_whole_block<W: Write>(
+    out: &mut W,
+    mode: BERMode,
+    style: Style<'_>,
+    block: &Block<'_>,
+) -> Result<(), WalkError>
+    ensures elements { OnOk result (BlockHolds (AreElements max_depth mode) block.now.bytes) }
+    ensures fails { IfErr result (λ f. WalkFails IsExternal (λ offset kind. BlockLacks (AreElements max_depth mode) block.now.bytes) f) }
+{
+    let shown = show_block(out, mode, style, block);
+    if let Err(error) = shown {
+        if !error.is_external() {
+            show_defect(out, style.alloc, &error)?;
+        }
+    }
+    shown
 }
 
 // Takes a line of PEM, and lists the elements of the block that ends with it, if one does.
@@ -94,13 +142,44 @@ fn show_line<'a, W: Write>(
     ensures goes_on { OnOk result (GoesOn (AreElements max_depth mode) reader.old line.now reader.new) }
     ensures fails { IfErr result (λ f. WalkFails IsExternal (λ offset kind. NeverComes (AreElements max_depth mode) reader.old line.now) f) }
 {
-    match reader.push(line) {
-        Ok(Some(block)) => show_block(out, mode, style, &block),
-        Ok(None) => Ok(()),
-        Err(error) => Err(error),
+    match reader.push(line)? {
+        Some(block) => show_whole_block(out, mode, style, &block),
+        None => Ok(()),
     }
 }
 
+// Reports the block that is open at the end of an input of this size, if one is.
+fn show_end<W: Write>(
+    out: &mut W,
+    mode: BERMode,
+    style: Style<'_>,
+    reader: &mut PemReader<'_>,
+    size: usize,
+) -> Result<(), WalkError>
+    ensures ends { OnOk result ((open_lines reader.old ≡ None) × (has_any reader.old ≡ true)) }
+    ensures fails { IfErr result (λ f. WalkFails IsExternal (λ offset kind. (open_lines reader.old ≢ None) ⊎ (has_any reader.old ≡ false)) f) }
+{
+    match reader.finish(size)? {
+        Some(block) => show_whole_block(out, mode, style, &block),
+        None => Ok(()),
+    }
+}
+
+// The first error of blocks, after a further one was listed with this outcome. An external error is returned.
+fn first_error(
+    first: Option<WalkError>,
+    outcome: Result<(), WalkError>,
+) -> Result<Option<WalkError>, WalkError>
+    ensures { IsFirstError first outcome result }
+{
+    match outcome {
+        Ok(()) => Ok(first),
+        Err(error) if error.is_external() => Err(error),
+        Err(error) => Ok(first.or(Some(error))),
+    }
+}
+
+// Lists each block of PEM. If one is malformed, it is reported, and the next ones are listed. The first error is returned.
 fn show_blocks<W: Write>(
     out: &mut W,
     mode: BERMode,
@@ -110,16 +189,20 @@ fn show_blocks<W: Write>(
     ensures decodes { OnOk result (HoldsElements mode Pem input.now) }
     ensures fails { IfErr result (λ f. WalkFails IsExternal (HoldsNone mode Pem input.now) f) }
 {
-    let mut reader = PemReader::new(style.alloc);
-    let mut left = Some(input);
+    let text = text_of(input);
+    let mut reader = PemReader::new(style.alloc, input.len() - text.len());
+    let mut first = None;
+    let mut left = Some(text);
     while let Some(text) = left {
         let (line, after) = cut_line(text);
-        if let Err(error) = show_line(out, mode, style, &mut reader, line) {
-            return Err(error);
-        }
+        first = first_error(first, show_line(out, mode, style, &mut reader, line))?;
         left = after;
     }
-    reader.finish(input.len())
+    let end = show_end(out, mode, style, &mut reader, input.len());
+    match first_error(first, end)? {
+        Some(error) => Err(error),
+        None => Ok(()),
+    }
 }
 
 fn show_hex<W: Write>(
@@ -131,7 +214,8 @@ fn show_hex<W: Write>(
     ensures decodes { OnOk result (HoldsElements mode Hex input.now) }
     ensures fails { IfErr result (λ f. WalkFails IsExternal (HoldsNone mode Hex input.now) f) }
 {
-    let bytes = decode_hex(style.alloc, input)?;
+    let text = text_of(input);
+    let bytes = decode_hex(style.alloc, text, input.len() - text.len())?;
     let line = line_of(style.alloc, "input: hexadecimal, ");
     show_counted(out, mode, style, line, bytes.as_slice())
 }

@@ -1,19 +1,16 @@
 //! Blocks of PEM (RFC 7468), line by line.
-ghost use Rattle.std.specs.Prelude.{◌≡◌, ◌≢◌, ◌<◌, ◌∷◌, ◌++◌, ◌⊎◌, true, false, [], None, IfOk, IfErr, IfSome, IfNone, OnOk, option_map, length};
+ghost use Rattle.std.specs.Prelude.{◌≡◌, ◌<◌, ◌∷◌, ◌↔◌, ℕ, List, false, [], None, IfOk, IfErr, IfSome, IfNone, IsTrue, option_map, length};
 ghost use Rattle.yasna_base.specs.declared.error.ASN1ErrorKind.TheVariants.{Eof};
-ghost use Rattle.asn1show_lines.specs.Blocks.{Begins, BeginsBlock, lines_left, lines_of};
-ghost use Rattle.asn1show_lines.specs.Reader.{TakesLine, DecodesNothing, digits_in, has_any, open_digits};
-ghost use Rattle.asn1show_lines.specs.Text.{Base64Decodes, IsNoBase64, IsOutOfMemory};
-ghost use Rattle.asn1show_walk.specs.Errors.{IsMalformed, WalkFails};
-ghost use Rattle.asn1show_walk.specs.declared.error.WalkError.TheVariants.{Malformed};
+ghost use Rattle.asn1show_lines.specs.Blocks.{begin_boundary, lines_left, lines_of, unindented, Begins, BeginsBlock, EndsBlock};
+ghost use Rattle.asn1show_lines.specs.Input.{BeginsAsBlock};
+ghost use Rattle.asn1show_lines.specs.Reader.{has_any, next_offset, open_lines, IsCutOff, IsDecoded, IsUnclosed, TakesLine};
+ghost use Rattle.asn1show_walk.specs.Errors.{IsMalformed};
 
-use crate::digits::{decode_base64, push_digits};
+use crate::block::{Line, decode_block, missing};
 use asn1show_walk::{Expected, WalkError};
 use std::alloc::{AllocError, Global};
-use yasna_base::error::ASN1ErrorKind;
 
-/// The start of a line that begins a block.
-pub const BEGIN: &[u8] = b"-----BEGIN ";
+const BEGIN: &[u8] = b"-----BEGIN ";
 
 const END: &[u8] = b"-----END ";
 
@@ -28,61 +25,81 @@ pub fn cut_line(text: &[u8]) -> (&[u8], Option<&[u8]>)
     }
 }
 
-/// A block of PEM: its label and its bytes.
-#[derive(Drop)]
-pub struct Block<'a> {
-    /// The label, from the lines around it.
-    pub label: &'a [u8],
-    /// The bytes.
-    pub bytes: Vec<u8>,
+// A line without the white space at its start.
+fn unindented(line: &[u8]) -> &[u8]
+    ensures { result.now ≡ unindented line.now }
+{
+    line.trim_ascii_start()
 }
 
-// An open block, and the digits of its lines.
-#[derive(Drop)]
-struct OpenBlock<'a> {
-    label: &'a [u8],
-    digits: Vec<u8>,
+/// Whether a line begins as the first line of a block does.
+pub fn begins_as_block(line: &[u8]) -> bool
+    ensures { IsTrue result ↔ BeginsAsBlock line.now }
+{
+    unindented(line).starts_with(BEGIN)
 }
 
-// The label of a line that begins a block.
+// Whether a line ends a block.
+fn ends_block(line: &[u8]) -> bool
+    ensures { IsTrue result ↔ EndsBlock line.now }
+{
+    unindented(line).starts_with(END)
+}
+
+// The label of an unindented line that begins a block.
 fn label_of(line: &[u8]) -> Option<&[u8]>
     ensures label { IfSome result (λ label. Begins line.now label.now) }
-    ensures none { IfNone result (BeginsBlock line.now → ⊥) }
+    ensures none { IfNone result ((label : List ℕ) → Begins line.now label → ⊥) }
 {
     let rest = line.strip_prefix(BEGIN)?;
     rest.trim_ascii_end().strip_suffix(b"-----")
 }
 
+/// A block of PEM that has ended.
+#[derive(Drop)]
+pub struct Block<'a> {
+    /// The label, from the line that begins it.
+    pub label: &'a [u8],
+    /// The bytes, or why it has none.
+    pub bytes: Result<Vec<u8>, WalkError>,
+}
+
+// An open block, and its lines.
+#[derive(Drop)]
+struct OpenBlock<'a> {
+    label: &'a [u8],
+    lines: Vec<Line<'a>>,
+}
+
 impl<'a> OpenBlock<'a> {
     // The block that this line begins, if it begins one.
     fn begin(alloc: Global, line: &'a [u8]) -> Option<OpenBlock<'a>>
-        ensures digits { IfSome result (λ b. b.digits.items ≡ []) }
-        ensures begins { IfSome result (λ b. Begins line.now b.label.now) }
+        ensures lines { IfSome result (λ b. b.lines.items ≡ []) }
+        ensures begins { IfSome result (λ b. BeginsBlock line.now) }
         ensures none { IfNone result (BeginsBlock line.now → ⊥) }
     {
-        let label = label_of(line)?;
-        let digits = Vec::new(alloc);
-        Some(OpenBlock { label, digits })
+        let label = label_of(unindented(line))?;
+        let lines = Vec::new(alloc);
+        Some(OpenBlock { label, lines })
     }
 
-    // Takes a line. One with a colon is a header of an older form (RFC 1421).
-    fn push(&mut self, line: &[u8]) -> Result<(), AllocError>
-        ensures { OnOk result (self.new.digits.items ≡ self.old.digits.items ++ digits_in line.now) }
+    // The whole block, whose last line is at this offset.
+    fn end(self, alloc: Global, offset: usize) -> Block<'a>
+        ensures { IsDecoded self.entry.lines.items offset result.bytes }
     {
-        if line.contains(&b':') {
-            return Ok(());
+        let OpenBlock { label, lines } = self;
+        let bytes = decode_block(alloc, lines.as_slice(), offset);
+        Block { label, bytes }
+    }
+
+    // The block, which another one or the end of the input cuts off at this offset.
+    fn cut(self, offset: usize) -> Block<'a>
+        ensures { IsCutOff offset result.bytes }
+    {
+        Block {
+            label: self.label,
+            bytes: Err(missing(offset, Expected::BlockEnd)),
         }
-        push_digits(&mut self.digits, line)
-    }
-
-    // The whole block, whose last line ends at this offset.
-    fn end(self, alloc: Global, offset: usize) -> Result<Block<'a>, WalkError>
-        ensures ok { IfOk result (λ block. Base64Decodes self.entry.digits.items block.bytes.items) }
-        ensures malformed { IfErr result (λ f. WalkFails IsOutOfMemory (IsNoBase64 self.entry.digits.items offset) f) }
-    {
-        let OpenBlock { label, digits } = self;
-        let bytes = decode_base64(alloc, digits.as_slice(), offset)?;
-        Ok(Block { label, bytes })
     }
 }
 
@@ -97,70 +114,65 @@ pub struct PemReader<'a> {
     is_any: bool,
 }
 
-fn missing(offset: usize, expected: Expected) -> WalkError
-    ensures { result ≡ Malformed offset Eof expected }
-{
-    WalkError::Malformed {
-        offset,
-        kind: ASN1ErrorKind::Eof,
-        expected,
-    }
-}
-
 impl<'a> PemReader<'a> {
-    /// A reader before the first line.
-    pub fn new(alloc: Global) -> PemReader<'a>
-        ensures digits { open_digits result ≡ None }
+    /// A reader before the first line, which begins at this offset.
+    pub fn new(alloc: Global, offset: usize) -> PemReader<'a>
+        ensures lines { open_lines result ≡ None }
         ensures any { has_any result ≡ false }
+        ensures next { next_offset result ≡ offset }
     {
         PemReader {
             alloc,
-            offset: 0,
+            offset,
             block: None,
             is_any: false,
         }
     }
 
-    // Goes to the end of a line, and returns its offset.
+    // Goes past the end of a line, and returns where the line begins.
     fn pass(&mut self, line: &[u8]) -> usize
-        ensures digits { open_digits self.new ≡ open_digits self.old }
+        ensures begins { result ≡ next_offset self.old }
+        ensures lines { open_lines self.new ≡ open_lines self.old }
         ensures any { has_any self.new ≡ has_any self.old }
     {
-        let end = self.offset.saturating_add(line.len());
-        self.offset = end.saturating_add(1);
-        end
+        let offset = self.offset;
+        self.offset = offset.saturating_add(line.len()).saturating_add(1);
+        offset
     }
 
-    /// Takes a line, and returns the block that ends with it.
-    pub fn push(&mut self, line: &'a [u8]) -> Result<Option<Block<'a>>, WalkError>
-        ensures takes { IfOk result (λ block. TakesLine self.old line.now (option_map (λ b. b.bytes.items) block) self.new) }
-        ensures malformed { IfErr result (λ f. WalkFails IsOutOfMemory (λ at kind. DecodesNothing self.old line.now) f) }
+    /// Takes a line, and returns the block that ends with it or is cut off by it.
+    pub fn push(&mut self, line: &'a [u8]) -> Result<Option<Block<'a>>, AllocError>
+        ensures { IfOk result (λ block. TakesLine self.old line.now (option_map (λ b. b.bytes) block) self.new) }
     {
         let offset = self.pass(line);
+        let next = OpenBlock::begin(self.alloc, line);
         let Some(mut block) = self.block.take() else {
-            self.block = OpenBlock::begin(self.alloc, line);
+            self.block = next;
             return Ok(None);
         };
-        if line.starts_with(END) {
+        if ends_block(line) {
             self.is_any = true;
-            return block.end(self.alloc, offset).map(Some);
+            return Ok(Some(block.end(self.alloc, offset)));
         }
-        block.push(line)?;
+        if next.is_some() {
+            self.block = next;
+            return Ok(Some(block.cut(offset)));
+        }
+        block.lines.push(Line { offset, text: line })?;
         self.block = Some(block);
         Ok(None)
     }
 
-    /// Checks at the end of an input of this size that no block is open and that there was one.
-    pub fn finish(&self, size: usize) -> Result<(), WalkError>
-        ensures closed { OnOk result (open_digits self.now ≡ None) }
-        ensures any { OnOk result (has_any self.now ≡ true) }
-        ensures malformed { IfErr result (λ f. IsMalformed (λ at kind. (open_digits self.now ≢ None) ⊎ (has_any self.now ≡ false)) f) }
+    /// The block that is open at the end of an input of this size, or else an error if no block has ended.
+    pub fn finish(&mut self, size: usize) -> Result<Option<Block<'a>>, WalkError>
+        ensures open { IfOk result (λ block. IsUnclosed self.old size (option_map (λ b. b.bytes) block)) }
+        ensures malformed { IfErr result (λ f. IsMalformed (λ at kind. (at ≡ size) × (kind ≡ Eof) × (has_any self.old ≡ false)) f) }
     {
-        if self.block.is_some() {
-            return Err(missing(size, Expected::BlockEnd));
+        if let Some(block) = self.block.take() {
+            return Ok(Some(block.cut(size)));
         }
         if self.is_any {
-            return Ok(());
+            return Ok(None);
         }
         Err(missing(size, Expected::Block))
     }

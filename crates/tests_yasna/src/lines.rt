@@ -236,7 +236,7 @@ fn each_element_has_its_line(rt: HostRuntime) {
 }
 
 // Malformed input in hexadecimal, and what is said of it.
-static MALFORMED: [(&str, BERMode, Expectation); 9] = [
+static MALFORMED: [(&str, BERMode, Expectation); 12] = [
     (
         "3003 020101 02",
         Ber,
@@ -282,6 +282,21 @@ static MALFORMED: [(&str, BERMode, Expectation); 9] = [
         Ber,
         Malformed("offset 3: Invalid: expected one more hexadecimal digit"),
     ),
+    (
+        "05 0G\n0\n",
+        Ber,
+        Malformed("offset 4: Invalid: expected a hexadecimal digit"),
+    ),
+    (
+        "\u{FEFF}050G",
+        Ber,
+        Malformed("offset 6: Invalid: expected a hexadecimal digit"),
+    ),
+    (
+        "\u{FEFF}050",
+        Ber,
+        Malformed("offset 6: Invalid: expected one more hexadecimal digit"),
+    ),
 ];
 
 // A name, an encoding, the texts that an input is spelled of, how often, and what is wanted of it. The greatest depth is 101. Base64 is
@@ -318,7 +333,7 @@ static SPELLED: [(&str, Option<InputFormat>, [&str; 4], usize, Expectation); 5] 
             "",
         ],
         0,
-        Malformed("offset 42: Invalid: expected a digit of base64"),
+        Malformed("offset 20: Invalid: expected no padding before the end of base64"),
     ),
     (
         "padding in a later group",
@@ -330,7 +345,7 @@ static SPELLED: [(&str, Option<InputFormat>, [&str; 4], usize, Expectation); 5] 
             "",
         ],
         1023,
-        Malformed("offset 4134: Invalid: expected a digit of base64"),
+        Malformed("offset 4112: Invalid: expected no padding before the end of base64"),
     ),
 ];
 

@@ -1,15 +1,14 @@
-use Rattle.std.proofs.Common.{◌↔◌}
 use Rattle.asn1show_lines.specs.Blocks.{lines_left}
 use Rattle.asn1show_lines.specs.Input.{HoldsElements}
-use Rattle.asn1show_lines.specs.Reader.{Awaits}
 use Rattle.asn1show_lines.specs.declared.input_format.InputFormat.TheVariants.{Pem}
 use Rattle.asn1show_walk.specs.WellFormed.{AreElements}
 use Rattle.asn1show_lines.proofs.Cut.{size_left}
+use Rattle.asn1show_lines.proofs.FirstError.{StillHolds}
 use Rattle.asn1show_lines.proofs.lines.show_blocks.Given as goal
 
--- the input says elements exactly if the lines that are left say what is awaited
+-- the input says elements exactly if the lines that are left say what is awaited, unless there was an error
 abbrev pub invariant-loop-left : goal.invariant-loop-left
-invariant-loop-left g l = HoldsElements l.mode Pem l.input ↔ Awaits (AreElements 101 l.mode) l.reader (lines_left l.left)
+invariant-loop-left g l = StillHolds (HoldsElements l.mode Pem l.input) (AreElements 101 l.mode) l.first l.reader (lines_left l.left)
 
 abbrev pub decreases-loop-left : goal.decreases-loop-left
 decreases-loop-left g l = size_left l.left

@@ -1,39 +1,38 @@
-use Rattle.std.proofs.Common.{◌≡◌, ◌∙◌, Some, refl, sym, ap}
+use Rattle.std.proofs.Common.{◌≡◌, ◌∙◌, ◌++◌, ◌∷◌, [], Some, refl, sym, subst, ap, rules}
 use Rattle.std.specs.Prelude.{option_map}
-use Rattle.asn1show_lines.specs.Text.{Base64Decodes, IsOutOfMemory}
-use Rattle.asn1show_lines.specs.Blocks.{end_boundary}
-use Rattle.asn1show_lines.specs.Reader.{open_digits, ends, within}
-use Rattle.asn1show_walk.proofs.WalkFails.{fails_by}
-use Rattle.asn1show_lines.proofs.Boundaries.{prefix_found, prefix_missed}
-use Rattle.asn1show_lines.proofs.Taking.{ok_by_map, err_by_map}
+use Rattle.asn1show_lines.specs.Reader.{open_lines, cuts, ends, within, IsCutOff, IsDecoded}
+use Rattle.asn1show_lines.specs.declared.block.Line.{Line}
+use Rattle.asn1show_lines.proofs.Opening.{by_none, by_some, map_some}
 use Rattle.asn1show_lines.proofs.pem.PemReader.push.Goals as goal
 
-pub returns-then-starts_with-clause-takes : goal.returns-then-starts_with-clause-takes
-returns-then-starts_with-clause-takes c =
-    let taken : open_digits c.args.self.now ≡ Some c.in-Some.block.digits.items =
-    sym c.pass-offset.ensures.digits ∙ ap (option_map (λ b. b.digits.items)) (sym c.take.ensures.value ∙ c.in-Some.is) in
-    ok_by_map c.end.result c.map.result (λ block. Base64Decodes c.in-Some.block.digits.items block.bytes.items) _ c.map.ensures.cases
-    c.end.ensures.ok
-    (λ block e. ends c.in-Some.block.digits.items block.bytes.items taken
-    (prefix_found c.args.line.now end_boundary c.starts_with.result c.starts_with.ensures.value c.if-starts_with.true) refl e
-    (ap (option_map (λ b. b.digits.items)) c.take.ensures.after) refl)
+pub returns-then-ends_block : goal.returns-then-ends_block
+returns-then-ends_block c =
+    let lines = c.in-Some.block.lines.items in
+    let taken : open_lines c.args.self.now ≡ Some lines =
+    sym c.pass-offset.ensures.lines ∙ ap (option_map (λ b. b.lines.items)) (sym c.take.ensures.value ∙ c.in-Some.is) in
+    ends lines c.end.result.bytes taken (c.ends_block.ensures.0 (search rules)) refl
+    (subst (λ z. IsDecoded lines z c.end.result.bytes) c.pass-offset.ensures.begins c.end.ensures)
+    (ap (option_map (λ b. b.lines.items)) c.take.ensures.after) refl
 
-pub returns-then-starts_with-clause-malformed : goal.returns-then-starts_with-clause-malformed
-returns-then-starts_with-clause-malformed c =
-    let taken : open_digits c.args.self.now ≡ Some c.in-Some.block.digits.items =
-    sym c.pass-offset.ensures.digits ∙ ap (option_map (λ b. b.digits.items)) (sym c.take.ensures.value ∙ c.in-Some.is) in
-    err_by_map c.end.result c.map.result _ _ c.map.ensures.cases c.end.ensures.malformed
-    (λ f x. fails_by IsOutOfMemory f (λ o k none. record {
-      digits = c.in-Some.block.digits.items;
-      taken = taken;
-      ends = prefix_found c.args.line.now end_boundary c.starts_with.result c.starts_with.ensures.value c.if-starts_with.true;
-      none = none.none;
-    }) x)
+pub returns-then-is_some : goal.returns-then-is_some
+returns-then-is_some c =
+    let lines = c.in-Some.block.lines.items in
+    let taken : open_lines c.args.self.now ≡ Some lines =
+    sym c.pass-offset.ensures.lines ∙ ap (option_map (λ b. b.lines.items)) (sym c.take.ensures.value ∙ c.in-Some.is) in
+    cuts lines c.cut.result.bytes taken (λ e. let w = c.ends_block.ensures.1 e in absurd (cc))
+    (by_some c.begin-next.result c.is_some.result c.is_some.ensures c.if-is_some.true c.begin-next.ensures.begins) refl
+    (subst (λ z. IsCutOff z c.cut.result.bytes) c.pass-offset.ensures.begins c.cut.ensures)
+    (map_some (λ b. b.lines.items) [] c.begin-next.result c.is_some.result c.is_some.ensures c.if-is_some.true c.begin-next.ensures.lines)
+    c.pass-offset.ensures.any
 
-pub returns-clause-takes : goal.returns-clause-takes
-returns-clause-takes c =
-    let taken : open_digits c.args.self.now ≡ Some c.in-Some.block.digits.items =
-    sym c.pass-offset.ensures.digits ∙ ap (option_map (λ b. b.digits.items)) (sym c.take.ensures.value ∙ c.in-Some.is) in
-    within c.in-Some.block.digits.items taken
-    (prefix_missed c.args.line.now end_boundary c.starts_with.result c.starts_with.ensures.value c.if-starts_with.false) refl
-    (ap Some (c.in_ok-push.ensures {u = tt})) c.pass-offset.ensures.any
+pub returns : goal.returns
+returns c =
+    let lines = c.in-Some.block.lines.items in
+    let last : Line = record { offset = c.pass-offset.result; text = c.args.line } in
+    let taken : open_lines c.args.self.now ≡ Some lines =
+    sym c.pass-offset.ensures.lines ∙ ap (option_map (λ b. b.lines.items)) (sym c.take.ensures.value ∙ c.in-Some.is) in
+    let pushed : c.push.new.self.items ≡ lines ++ (last ∷ []) = search rules in
+    within lines last taken (
+      (λ e. let w = c.ends_block.ensures.1 e in absurd (cc)),
+      by_none c.begin-next.result c.is_some.result c.is_some.ensures c.if-is_some.false c.begin-next.ensures.none,
+    ) refl refl c.pass-offset.ensures.begins (ap Some pushed) c.pass-offset.ensures.any

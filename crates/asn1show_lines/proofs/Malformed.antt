@@ -1,0 +1,44 @@
+-- What is said of the place and the kind of an error, and of a block that has one.
+use Rattle.std.proofs.Common.{◌≡◌, inr, ℕ, List, sym, subst, Result, Ok, Err}
+use Rattle.std.specs.Global.{Global}
+use Rattle.std.specs.List.{concat}
+use Rattle.std.specs.Prelude.{IfErr, IfOk, Vec}
+use Rattle.yasna_base.specs.declared.error.ASN1ErrorKind.{ASN1ErrorKind}
+use Rattle.asn1show_walk.specs.Errors.{IsMalformed, WalkFails}
+use Rattle.asn1show_walk.specs.declared.error.Expected.{Expected}
+use Rattle.asn1show_walk.specs.declared.error.WalkError.{WalkError}
+use Rattle.asn1show_walk.specs.declared.error.WalkError.TheVariants.{Malformed, Memory, Output, ClosedOutput}
+use Rattle.asn1show_walk.proofs.WalkFails.{fails_by}
+use Rattle.asn1show_lines.specs.Reader.{texts, IsBody, IsDecoded, NoBase64, NoBlock, NoBody, no_base64, no_body}
+use Rattle.asn1show_lines.specs.Text.{IsBase64, IsOutOfMemory}
+use Rattle.asn1show_lines.specs.declared.block.Line.{Line}
+
+pub malformed_is : (Q : ℕ → ASN1ErrorKind → Type 0) (f : WalkError) (o : ℕ) (k : ASN1ErrorKind) (e : Expected) → f ≡ Malformed o k e → Q o k → IsMalformed Q f
+malformed_is Q f o k e same q = subst (IsMalformed Q) (sym same) q
+
+pub malformed_by : (P Q : ℕ → ASN1ErrorKind → Type 0) (f : WalkError) → ((o : ℕ) (k : ASN1ErrorKind) → P o k → Q o k) → IsMalformed P f → IsMalformed Q f
+malformed_by P Q (Malformed o k e) g x = g o k x
+malformed_by P Q Memory g x = x
+malformed_by P Q Output g x = x
+malformed_by P Q ClosedOutput g x = x
+
+-- what no offset and kind has
+pub never_malformed : (Q : ℕ → ASN1ErrorKind → Type 0) (f : WalkError) → IsMalformed Q f → ((o : ℕ) (k : ASN1ErrorKind) → Q o k → ⊥) → ⊥
+never_malformed Q (Malformed o k e) x none = none o k x
+never_malformed Q Memory x none = x
+never_malformed Q Output x none = x
+never_malformed Q ClosedOutput x none = x
+
+-- ---- what a block decodes to, by its body
+module _ (lines : List Line) (end : ℕ) where
+  pub by_body : (body : List Line) → IsBody lines body → (r : Result (Vec ℕ Global) WalkError) → IfOk r (λ bytes. IsBase64 (concat (texts body)) bytes.items) →
+      IfErr r (λ f. WalkFails IsOutOfMemory (NoBase64 body end) f) → IsDecoded lines end r
+  by_body body b (Ok bytes) ok err = record {
+    headers_end = b.headers_end;
+    is_plain = b.is_plain;
+    decodes = subst (λ z. IsBase64 (concat z) bytes.items) b.same ok;
+  }
+  by_body body b (Err f) ok err = fails_by IsOutOfMemory f (λ o k x. no_base64 body b x) err
+
+  pub by_no_body : (f : WalkError) → IsMalformed (NoBody lines end) f → WalkFails IsOutOfMemory (NoBlock lines end) f
+  by_no_body f x = inr (malformed_by (NoBody lines end) (NoBlock lines end) f (λ o k n. no_body n) x)
