@@ -125,6 +125,16 @@ static CALLS: [(&str, CallClass); 77] = [
     ("d:vtdv", CallClass::Raw),
 ];
 
+static DER_ERRORS: [&str; 2] = [
+    "BER answers otherwise than DER",
+    "DER took what is not the form",
+];
+
+static CER_ERRORS: [&str; 2] = [
+    "BER answers otherwise than CER",
+    "CER took what is not the form",
+];
+
 // How many inputs were tried, how many values were read, how many calls failed, and what is to be printed of that.
 #[derive(Drop)]
 struct Tally {
@@ -210,74 +220,47 @@ fn error(
     bytes: &str,
     accepted: &mut u64,
 ) -> Result<Option<&'static str>, AllocError> {
-    let outcomes = Outcomes::of(alloc, call, bytes)?;
-    if let Some(error) = outcomes.error(kind, bytes, accepted) {
-        return Ok(Some(error));
+    let ber = outcome_for(alloc, BERMode::Ber, call, bytes)?;
+    let der = outcome_for(alloc, BERMode::Der, call, bytes)?;
+    let cer = outcome_for(alloc, BERMode::Cer, call, bytes)?;
+    if is_none(&ber) || is_none(&der) || is_none(&cer) {
+        return Ok(Some("an answer that is none"));
     }
-    let ber = outcomes.ber.as_str();
-    match encoding_of(ber) {
-        Some(encoding) => encoding_error(alloc, kind, call, ber, encoding),
-        None => Ok(None),
+    for outcome in [&ber, &der, &cer] {
+        let count = u64::from(encoding_of(outcome).is_some());
+        *accepted = accepted.saturating_add(count);
     }
-}
-
-// What a call returns on the same bytes in each mode.
-#[derive(Drop)]
-struct Outcomes {
-    ber: String,
-    der: String,
-    cer: String,
-}
-
-impl Outcomes {
-    // What the call of this name returns.
-    fn of(alloc: Global, call: &str, bytes: &str) -> Result<Outcomes, AllocError> {
-        Ok(Outcomes {
-            ber: outcome_for(alloc, BERMode::Ber, call, bytes)?,
-            der: outcome_for(alloc, BERMode::Der, call, bytes)?,
-            cer: outcome_for(alloc, BERMode::Cer, call, bytes)?,
-        })
-    }
-
-    // What is wrong among them.
-    fn error(&self, kind: CallClass, bytes: &str, accepted: &mut u64) -> Option<&'static str> {
-        let ber = self.ber.as_str();
-        let der = self.der.as_str();
-        let cer = self.cer.as_str();
-        if is_none(ber) || is_none(der) || is_none(cer) {
-            return Some("an answer that is none");
-        }
-        count_accepted(ber, accepted);
-        count_accepted(der, accepted);
-        count_accepted(cer, accepted);
-        if encoding_of(der).is_some() && ber != der {
-            return Some("BER answers otherwise than DER");
-        }
-        if is_other_encoding(kind, der, bytes) {
-            return Some("DER took what is not the form");
-        }
-        if encoding_of(cer).is_some() && value_of(ber) != value_of(cer) {
-            return Some("BER answers otherwise than CER");
-        }
-        if is_other_encoding(kind, cer, bytes) {
-            return Some("CER took what is not the form");
-        }
-        None
+    let in_der = strict_error(kind, &der, ber.as_str() == der.as_str(), bytes, &DER_ERRORS);
+    let in_cer = strict_error(
+        kind,
+        &cer,
+        value_of(&ber) == value_of(&cer),
+        bytes,
+        &CER_ERRORS,
+    );
+    match (in_der.or(in_cer), encoding_of(&ber)) {
+        (None, Some(encoding)) => encoding_error(alloc, kind, call, &ber, encoding),
+        (found, _) => Ok(found),
     }
 }
 
-// Whether a result shows another encoding than these bytes, where it may not.
-fn is_other_encoding(kind: CallClass, outcome: &str, bytes: &str) -> bool {
-    match (kind, encoding_of(outcome)) {
-        (CallClass::Lenient, _) | (_, None) => false,
-        (_, Some(encoding)) => encoding != bytes,
+// What is wrong with what a call returns in DER or CER: the first of these errors where BER returns another value, the second where
+// another encoding was read than is written, though the call takes one alone.
+fn strict_error(
+    kind: CallClass,
+    outcome: &str,
+    is_same: bool,
+    bytes: &str,
+    errors: &'static [&'static str; 2],
+) -> Option<&'static str> {
+    let encoding = encoding_of(outcome)?;
+    if !is_same {
+        return Some(errors[0]);
     }
-}
-
-// Counts a result that shows a value.
-fn count_accepted(outcome: &str, accepted: &mut u64) {
-    if encoding_of(outcome).is_some() {
-        *accepted = accepted.saturating_add(1);
+    match kind {
+        CallClass::Lenient => None,
+        _ if encoding == bytes => None,
+        _ => Some(errors[1]),
     }
 }
 

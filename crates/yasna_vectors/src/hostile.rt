@@ -46,7 +46,17 @@ pub fn check_group(alloc: Global, group: Group, input: &str) -> Result<Report, A
             check_case(alloc, group, &case, &mut tally)?;
         }
     }
-    report(group, tally)
+    let tried = tally.tried;
+    let failed = tally.failed;
+    let name = match group {
+        Group::Cut => "cuts",
+        Group::Length => "changed lengths",
+    };
+    writeln!(tally.text, "{tried} {name}, {failed} failed")?;
+    Ok(Report {
+        text: tally.text,
+        verdict: Verdict::of(failed),
+    })
 }
 
 // Checks a case with each byte of its argument written out, if these are at most 300.
@@ -59,31 +69,19 @@ fn check_case(
     let Some(bytes) = case.bytes(alloc) else {
         return Ok(());
     };
-    let digits = hex::encode(alloc, bytes?)?;
-    if digits.len() > 600 {
+    let bytes = bytes?;
+    if bytes.len() > 300 {
         return Ok(());
     }
-    let case = with(case, case.call, &digits);
+    let digits = hex::encode(alloc, bytes.as_slice())?;
     match group {
-        Group::Cut => check_prefixes(alloc, &case, tally),
-        Group::Length => check_lengths(alloc, &case, tally),
+        Group::Cut => check_prefixes(alloc, case, &digits, tally),
+        Group::Length => {
+            let place = identifier_length(&bytes).saturating_mul(2);
+            let (identifier, length) = digits.split_at_checked(place).unwrap_or((&digits, ""));
+            check_lengths(alloc, case, identifier, length, tally)
+        }
     }
-}
-
-// What a group came to.
-fn report(group: Group, tally: Tally) -> Result<Report, AllocError> {
-    let mut text = tally.text;
-    let tried = tally.tried;
-    let failed = tally.failed;
-    let name = match group {
-        Group::Cut => "cuts",
-        Group::Length => "changed lengths",
-    };
-    writeln!(text, "{tried} {name}, {failed} failed")?;
-    Ok(Report {
-        text,
-        verdict: Verdict::of(failed),
-    })
 }
 
 // The case of a line that reads a byte or more and accepts them.
@@ -97,33 +95,34 @@ fn accepted(line: &str) -> Option<Case<'_>> {
     }
 }
 
-// Checks each proper front of a case's bytes.
-fn check_prefixes(alloc: Global, case: &Case, tally: &mut Tally) -> Result<(), AllocError> {
-    for end in (0..case.arg.len()).step_by(2) {
-        let prefix = case.arg.get(..end).unwrap_or("");
+// Checks each proper prefix of a case's bytes.
+fn check_prefixes(
+    alloc: Global,
+    case: &Case,
+    digits: &str,
+    tally: &mut Tally,
+) -> Result<(), AllocError> {
+    for end in (0..digits.len()).step_by(2) {
+        let prefix = digits.get(..end).unwrap_or("");
         let expected = prefix_outcome(alloc, case, prefix)?;
         check(alloc, case, prefix, expected, tally)?;
     }
     Ok(())
 }
 
-// What a front is to return.
+// What a prefix is to return.
 fn prefix_outcome(alloc: Global, case: &Case, prefix: &str) -> Result<&'static str, AllocError> {
     if !prefix.starts_with("3180") {
         return Ok("err Eof");
     }
     let ended = format!(in alloc; "{prefix}0000")?;
-    let is_whole = outcomes(alloc, &with(case, "der", &ended), "ok ")?;
-    if is_whole && outcomes(alloc, &with(case, case.call, &ended), "err Invalid")? {
+    let whole = outcome_or_unknown(alloc, &with(case, "der", &ended))?;
+    let again = outcome_or_unknown(alloc, &with(case, case.call, &ended))?;
+    if whole.starts_with("ok ") && again.starts_with("err Invalid") {
         Ok("err Invalid")
     } else {
         Ok("err Eof")
     }
-}
-
-// Whether a case's answer begins so.
-fn outcomes(alloc: Global, case: &Case, beginning: &str) -> Result<bool, AllocError> {
-    Ok(outcome_or_unknown(alloc, case)?.starts_with(beginning))
 }
 
 // A change of the first byte of a length.
@@ -172,11 +171,20 @@ static CHANGES: [Change; 5] = [
 ];
 
 // Checks a case's bytes with other first bytes of their length.
-fn check_lengths(alloc: Global, case: &Case, tally: &mut Tally) -> Result<(), AllocError> {
-    let (identifier, length) = at_length(case.arg);
+fn check_lengths(
+    alloc: Global,
+    case: &Case,
+    identifier: &str,
+    length: &str,
+    tally: &mut Tally,
+) -> Result<(), AllocError> {
     let others = length.get(2..).unwrap_or("");
+    let mode = case.mode_name();
     for change in &CHANGES {
-        if change.fits(case.mode_name(), length) {
+        let is_made = change.mode.unwrap_or(mode) == mode
+            && length.starts_with(change.from)
+            && !length.starts_with(change.to);
+        if is_made {
             let to = change.to;
             let changed = format!(in alloc; "{identifier}{to}{others}")?;
             check(alloc, case, &changed, change.expected, tally)?;
@@ -185,40 +193,20 @@ fn check_lengths(alloc: Global, case: &Case, tally: &mut Tally) -> Result<(), Al
     Ok(())
 }
 
-impl Change {
-    // Whether it is made in this mode of a length that begins so.
-    fn fits(self, mode: &str, length: &str) -> bool {
-        self.mode.unwrap_or(mode) == mode
-            && length.starts_with(self.from)
-            && !length.starts_with(self.to)
-    }
-}
-
-// The first identifier of a text in hexadecimal, and what is after it.
-fn at_length(text: &str) -> (&str, &str) {
-    let place = identifier_digits(text);
-    text.split_at_checked(place).unwrap_or((text, ""))
-}
-
-// Whether the first two hexadecimal digits end in five bits that are set: the number is in the bytes after (X.690, 8.1.2.4).
-fn is_long(text: &str) -> bool {
-    text.starts_with(['1', '3', '5', '7', '9', 'b', 'd', 'f']) && text.get(1..2) == Some("f")
-}
-
-// How many hexadecimal digits the first identifier of a text has (X.690, 8.1.2): two, and in the long form those of each
-// byte from 128 on after, and of the one that follows these.
-fn identifier_digits(text: &str) -> usize {
-    if !is_long(text) {
-        return 2;
-    }
-    let mut digits = 4usize;
-    for byte in text.as_bytes().iter().skip(2).step_by(2) {
-        if *byte < b'8' {
-            break;
+// How many bytes the first identifier has (X.690, 8.1.2): one, and where its last five bits are set those from 128 on after it, and
+// the one that follows these.
+fn identifier_length(bytes: &[u8]) -> usize {
+    let mut count = 1usize;
+    if let [31 | 63 | 95 | 127 | 159 | 191 | 223 | 255, number @ ..] = bytes {
+        count = 2;
+        for byte in number {
+            if *byte < 128 {
+                break;
+            }
+            count = count.saturating_add(1);
         }
-        digits = digits.saturating_add(2);
     }
-    digits
+    count
 }
 
 // A case like this one, of another call and on other bytes.

@@ -88,7 +88,7 @@ impl<'a> Case<'a> {
     /// The bytes that the argument represents, if it is such a text: pieces with `+` between them, each in hexadecimal, with
     /// `*` and a number after it where it is so many times.
     pub fn bytes(&self, alloc: Global) -> Option<Result<Vec<u8>, AllocError>> {
-        if !self.arg.contains(['+', '*']) {
+        if !self.arg.contains('+') && !self.arg.contains('*') {
             return bytes_of(alloc, self.arg);
         }
         let mut bytes = Vec::new(alloc);

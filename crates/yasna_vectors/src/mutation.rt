@@ -54,21 +54,28 @@ impl Vectors {
         Ok(bytes)
     }
 
-    // These bytes, changed in one way.
+    // These bytes, changed in one way: with another byte in place of one, cut, with one more or less between them, with others after
+    // them, or in an element of definite or of indefinite length.
     fn changed(
         &self,
         alloc: Global,
         random: &mut Random,
-        bytes: Vec<u8>,
+        mut bytes: Vec<u8>,
     ) -> Result<Vec<u8>, AllocError> {
         match random.below(6) {
-            0 => Ok(with_other_byte(random, bytes)),
-            1 => Ok(cut(random, bytes)),
-            2 => with_middle(alloc, random, &bytes),
-            3 => joined(bytes, self.any(random)),
-            4 => nested(alloc, random, &bytes),
-            _ => nested_without_length(alloc, random, &bytes),
+            0 => {
+                let place = random.below(bytes.len());
+                if let Some(byte) = bytes.get_mut(place) {
+                    *byte = any_byte(random);
+                }
+            }
+            1 => bytes.truncate(random.below(bytes.len())),
+            2 => return with_middle(alloc, random, &bytes),
+            3 => bytes.extend_from_slice(self.any(random))?,
+            4 => return nested(alloc, random, &bytes),
+            _ => return joined(alloc, &[around(random), 128], &bytes, &[0, 0]),
         }
+        Ok(bytes)
     }
 }
 
@@ -101,49 +108,23 @@ fn any_byte(random: &mut Random) -> u8 {
     TURNING.get(random.below(24)).copied().unwrap_or(0)
 }
 
-// The bytes with another one in place of one of them.
-fn with_other_byte(random: &mut Random, mut bytes: Vec<u8>) -> Vec<u8> {
-    let place = random.below(bytes.len());
-    if let Some(byte) = bytes.get_mut(place) {
-        *byte = any_byte(random);
-    }
-    bytes
-}
-
-// A front of the bytes.
-fn cut(random: &mut Random, mut bytes: Vec<u8>) -> Vec<u8> {
-    bytes.truncate(random.below(bytes.len()));
-    bytes
-}
-
 // The bytes with another one between them, or without one.
 fn with_middle(alloc: Global, random: &mut Random, bytes: &[u8]) -> Result<Vec<u8>, AllocError> {
     let place = random.below(bytes.len());
     let (prefix, back) = bytes.split_at_checked(place).unwrap_or((bytes, &[]));
     if random.below(2) == 0 {
-        joined_three(alloc, prefix, &[any_byte(random)], back)
+        joined(alloc, prefix, &[any_byte(random)], back)
     } else {
-        joined_three(alloc, prefix, &[], back.get(1..).unwrap_or(&[]))
+        joined(alloc, prefix, &[], back.get(1..).unwrap_or(&[]))
     }
 }
 
 // These bytes, one after the other.
-fn joined_three(
-    alloc: Global,
-    prefix: &[u8],
-    middle: &[u8],
-    back: &[u8],
-) -> Result<Vec<u8>, AllocError> {
+fn joined(alloc: Global, prefix: &[u8], middle: &[u8], back: &[u8]) -> Result<Vec<u8>, AllocError> {
     let mut made = Vec::from_slice(alloc, prefix)?;
     made.extend_from_slice(middle)?;
     made.extend_from_slice(back)?;
     Ok(made)
-}
-
-// The bytes, and others after them.
-fn joined(mut bytes: Vec<u8>, others: &[u8]) -> Result<Vec<u8>, AllocError> {
-    bytes.extend_from_slice(others)?;
-    Ok(bytes)
 }
 
 // An identifier of a constructed element.
@@ -158,17 +139,8 @@ fn nested(alloc: Global, random: &mut Random, bytes: &[u8]) -> Result<Vec<u8>, A
     };
     let first = around(random);
     match length.to_be_bytes() {
-        [0, low] if low < 128 => joined_three(alloc, &[first, low], bytes, &[]),
-        [0, low] => joined_three(alloc, &[first, 129, low], bytes, &[]),
-        [high, low] => joined_three(alloc, &[first, 130, high, low], bytes, &[]),
+        [0, low] if low < 128 => joined(alloc, &[first, low], bytes, &[]),
+        [0, low] => joined(alloc, &[first, 129, low], bytes, &[]),
+        [high, low] => joined(alloc, &[first, 130, high, low], bytes, &[]),
     }
-}
-
-// The bytes as the contents of an element of indefinite length.
-fn nested_without_length(
-    alloc: Global,
-    random: &mut Random,
-    bytes: &[u8],
-) -> Result<Vec<u8>, AllocError> {
-    joined_three(alloc, &[around(random), 128], bytes, &[0, 0])
 }
