@@ -15,7 +15,7 @@
 //! | `seqof`, `collect` | read_sequence_of, collect_sequence_of |
 //! | `tag`, `itag` | read_tagged, read_tagged_implicit, context 3 |
 //! | `buf`, `seqbuf` | read_with_buffer of the reader; of the parts in a read_sequence, of next |
-//! | `opt`, `def` | read_optional, and read_default of 10, in a read_sequence |
+//! | `opt`, `def` | read_optional, and read_default of `()`, in a read_sequence |
 //!
 //! The result is `err KIND` only where each call returned that kind, from the innermost to the parse.
 
@@ -74,19 +74,19 @@ impl Outcomes {
     }
 
     // What a callback returns that discards this error, or a result that was none.
-    fn discard(&mut self, rejection: Option<ASN1ErrorKind>) -> ASN1Result<i64> {
+    fn discard(&mut self, rejection: Option<ASN1ErrorKind>) -> ASN1Result<()> {
         self.note(rejection);
         if self.replaces {
             return Err(ASN1Error::new(ASN1ErrorKind::Extra));
         }
-        Ok(10)
+        Ok(())
     }
 }
 
 // What a callback reads.
 trait Body: Copy {
-    // Makes the calls.
-    fn read(self, reader: BERReader, outcomes: &mut Outcomes) -> ASN1Result<i64>;
+    // Makes the calls: why the outermost was rejected, if it was.
+    fn read(self, reader: BERReader, outcomes: &mut Outcomes) -> Option<ASN1ErrorKind>;
 }
 
 // An INTEGER.
@@ -94,14 +94,14 @@ trait Body: Copy {
 struct Integer;
 
 impl Body for Integer {
-    fn read(self, reader: BERReader, _outcomes: &mut Outcomes) -> ASN1Result<i64> {
-        reader.read_i64()
+    fn read(self, reader: BERReader, _outcomes: &mut Outcomes) -> Option<ASN1ErrorKind> {
+        kind_of(reader.read_i64())
     }
 }
 
 // What a callback returns that discards what it reads.
-fn throw_away<B: Body>(body: B, reader: BERReader, outcomes: &mut Outcomes) -> ASN1Result<i64> {
-    let discarded = kind_of(body.read(reader, outcomes));
+fn throw_away<B: Body>(body: B, reader: BERReader, outcomes: &mut Outcomes) -> ASN1Result<()> {
+    let discarded = body.read(reader, outcomes);
     outcomes.discard(discarded)
 }
 
@@ -113,113 +113,84 @@ struct Around<B> {
 }
 
 impl<B: Body> Body for Around<B> {
-    fn read(self, reader: BERReader, outcomes: &mut Outcomes) -> ASN1Result<i64> {
-        let body = self.body;
-        match self.call {
-            Call::SequenceOf => {
-                reader.read_sequence_of(|item| {
-                    throw_away(body, item, outcomes)?;
-                    Ok(())
-                })?;
-                Ok(10)
-            }
-            Call::Collect | Call::Tagged | Call::TaggedImplicit | Call::Buffer => {
-                self.read_within(reader, outcomes)
-            }
-            _ => reader.read_sequence(|seq| self.read_parts(seq, outcomes)),
+    fn read(self, reader: BERReader, outcomes: &mut Outcomes) -> Option<ASN1ErrorKind> {
+        let Around { call, body } = self;
+        if let Call::Sequence | Call::PartsBuffer | Call::Optional | Call::Default = call {
+            return kind_of(reader.read_sequence(|seq| read_parts(call, body, seq, outcomes)));
+        }
+        let tag = Tag::context(3);
+        let read = |inner: BERReader| throw_away(body, inner, outcomes);
+        match call {
+            Call::SequenceOf => kind_of(reader.read_sequence_of(read)),
+            Call::Tagged => kind_of(reader.read_tagged(tag, read)),
+            Call::TaggedImplicit => kind_of(reader.read_tagged_implicit(tag, read)),
+            Call::Buffer => kind_of(reader.read_with_buffer(read)),
+            _ => kind_of(reader.collect_sequence_of(read)),
         }
     }
 }
 
-impl<B: Body> Around<B> {
-    // A call whose callback returns what it makes of the reader within.
-    fn read_within(self, reader: BERReader, outcomes: &mut Outcomes) -> ASN1Result<i64> {
-        let Around { call, body } = self;
-        let tag = Tag::context(3);
-        let read = |inner: BERReader| throw_away(body, inner, outcomes);
-        match call {
-            Call::Tagged => reader.read_tagged(tag, read),
-            Call::TaggedImplicit => reader.read_tagged_implicit(tag, read),
-            Call::Buffer => Ok(reader.read_with_buffer(read)?.0),
-            _ => {
-                reader.collect_sequence_of(read)?;
-                Ok(10)
+// The parts of a sequence, where the call may be around one of them.
+fn read_parts<B: Body>(
+    call: Call,
+    body: B,
+    seq: &mut BERReaderSeq,
+    outcomes: &mut Outcomes,
+) -> ASN1Result<()> {
+    let discarded = match call {
+        Call::PartsBuffer => {
+            kind_of(seq.read_with_buffer(|parts| throw_away(body, parts.next(), outcomes)))
+        }
+        Call::Sequence => return throw_away(body, seq.next(), outcomes),
+        _ => {
+            let read = |part: BERReader| throw_away(body, part, outcomes);
+            match call {
+                Call::Optional => kind_of(seq.read_optional(read)),
+                _ => kind_of(seq.read_default((), read)),
             }
         }
-    }
-
-    // The parts of a sequence, where the call may be around one of them.
-    fn read_parts(self, seq: &mut BERReaderSeq, outcomes: &mut Outcomes) -> ASN1Result<i64> {
-        let body = self.body;
-        let discarded = match self.call {
-            Call::Optional => kind_of(seq.read_optional(|part| throw_away(body, part, outcomes))),
-            Call::Default => {
-                kind_of(seq.read_default(10, |part| throw_away(body, part, outcomes)))
-            }
-            Call::PartsBuffer => {
-                kind_of(seq.read_with_buffer(|parts| throw_away(body, parts.next(), outcomes)))
-            }
-            _ => return throw_away(body, seq.next(), outcomes),
-        };
-        outcomes.discard(discarded)
-    }
+    };
+    outcomes.discard(discarded)
 }
 
 /// What a call of this family returns on these bytes.
 pub fn outcome(alloc: Global, mode: BERMode, call: &str, bytes: &[u8]) -> Outcome {
     let (name, calls) = call.split_once(':')?;
-    let parse = Parse {
-        alloc,
-        mode,
+    let mut outcomes = Outcomes {
+        first: None,
+        others: false,
         replaces: match name {
             "drop" => false,
             "replace" => true,
             _ => return None,
         },
     };
+    let body = Integer;
     if calls == "parse" {
-        return Some(parse.outcome(bytes, Integer));
+        parse(alloc, mode, bytes, body, &mut outcomes);
+        return Some(shown(alloc, outcomes));
     }
-    match calls.split_once('.') {
-        Some((outer, inner)) => {
-            let body = enclosing(inner, Integer)?;
-            Some(parse.outcome(bytes, enclosing(outer, body)?))
+    let (outer, inner) = match calls.split_once('.') {
+        Some((outer, inner)) => (Some(outer), inner),
+        None => (None, calls),
+    };
+    let call = named(&CALLS, inner)?;
+    let body = Around { call, body };
+    match outer {
+        Some(outer) => {
+            let call = named(&CALLS, outer)?;
+            parse(alloc, mode, bytes, Around { call, body }, &mut outcomes);
         }
-        None => Some(parse.outcome(bytes, enclosing(calls, Integer)?)),
+        None => parse(alloc, mode, bytes, body, &mut outcomes),
     }
+    Some(shown(alloc, outcomes))
 }
 
-// The call of this name, whose callback reads this.
-fn enclosing<B: Body>(name: &str, body: B) -> Option<Around<B>> {
-    let call = named(&CALLS, name)?;
-    Some(Around { call, body })
-}
-
-// How a parse is made.
-#[derive(Clone, Copy)]
-struct Parse {
-    alloc: Global,
-    mode: BERMode,
-    replaces: bool,
-}
-
-impl Parse {
-    // What a parse returns whose callback discards what it reads.
-    fn outcome<B: Body>(self, bytes: &[u8], body: B) -> Text {
-        let mut outcomes = Outcomes {
-            first: None,
-            others: false,
-            replaces: self.replaces,
-        };
-        let whole = parse_ber_general(
-            self.alloc,
-            bytes,
-            self.mode,
-            |reader| throw_away(body, reader, &mut outcomes),
-        );
-        outcomes.note(kind_of(whole));
-        shown(self.alloc, outcomes)
-    }
+// Makes a parse whose callback discards what it reads.
+fn parse<B: Body>(alloc: Global, mode: BERMode, bytes: &[u8], body: B, outcomes: &mut Outcomes) {
+    let callback = |reader: BERReader| throw_away(body, reader, outcomes);
+    let whole = kind_of(parse_ber_general(alloc, bytes, mode, callback));
+    outcomes.note(whole);
 }
 
 // The answer of calls, where each returned the first error.
