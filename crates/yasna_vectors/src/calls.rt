@@ -5,33 +5,45 @@
 //! the other around an INTEGER.
 
 use crate::kind::ElementType;
-use crate::parts::Piece;
+use crate::parts::{Frame, Group, Piece};
 use crate::reads::{Body, Read, Then};
 use crate::steps::{Ask, Choice, Step};
 use crate::strings::Class;
 use yasna::tags::{TAG_BOOLEAN, TAG_INTEGER, TAG_SEQUENCE};
 use yasna::{ASN1ErrorKind, Tag, TagClass};
 
-const INTEGER: Piece = Piece::Plain(ElementType::I64);
+const INTEGER: Piece = Piece(Frame::Plain, ElementType::I64);
 
-const BOOLEAN: Piece = Piece::Plain(ElementType::Bool);
+const BOOLEAN: Piece = Piece(Frame::Plain, ElementType::Bool);
 
-const OCTETS: Piece = Piece::Plain(ElementType::Bytes);
+const OCTETS: Piece = Piece(Frame::Plain, ElementType::Bytes);
 
-const AROUND: Piece = Piece::Plain(ElementType::Around);
+const AROUND: Piece = Piece(Frame::Plain, ElementType::Around);
 
-const WITHIN: Piece = Piece::Plain(ElementType::Within);
+const WITHIN: Piece = Piece(Frame::Plain, ElementType::Within);
 
 /// An element as it is.
-pub const RAW: Piece = Piece::Plain(ElementType::Raw);
+pub const RAW: Piece = Piece(Frame::Plain, ElementType::Raw);
 
-const IDLE: Piece = Piece::Plain(ElementType::Idle);
+const IDLE: Piece = Piece(Frame::Plain, ElementType::Idle);
 
 /// `bytes`.
 pub const BYTES: Read = Read(Then::Shown, Body::Alone(OCTETS));
 
+/// `oid`.
+pub const IDENTIFIER: Read = Read(
+    Then::Shown,
+    Body::Alone(Piece(Frame::Plain, ElementType::Identifier)),
+);
+
+/// A SEQUENCE of a big INTEGER.
+pub const BIG_NUMBER: Read = Read(
+    Then::Shown,
+    Body::Sequence(&[Step(Ask::Next, Piece(Frame::Plain, ElementType::BigInteger))]),
+);
+
 /// `seqof_i64`.
-pub const NUMBERS: Read = Read(Then::Shown, Body::SequenceOf(INTEGER));
+pub const NUMBERS: Read = Read(Then::Shown, Body::List(Group::SequenceOf, INTEGER));
 
 // Tags of the context.
 const C0: Tag = Tag {
@@ -73,6 +85,11 @@ const C345677: Tag = Tag {
 const C345678: Tag = Tag {
     tag_class: TagClass::ContextSpecific,
     tag_number: 345_678,
+};
+
+const P1000: Tag = Tag {
+    tag_class: TagClass::Private,
+    tag_number: 1000,
 };
 
 /// Reads of one value.
@@ -149,7 +166,7 @@ pub static CALLS: [(&str, Read); 60] = [
             Body::Sequence(&[
                 Step(Ask::Optional, OCTETS),
                 Step(Ask::Optional, AROUND),
-                Step(Ask::Optional, Piece::Explicit(C0, ElementType::Null)),
+                Step(Ask::Optional, Piece(Frame::Explicit(C0), ElementType::Null)),
             ]),
         ),
     ),
@@ -160,7 +177,7 @@ pub static CALLS: [(&str, Read); 60] = [
             Body::Sequence(&[
                 Step(
                     Ask::Optional,
-                    Piece::Plain(ElementType::Rejected(ASN1ErrorKind::Invalid)),
+                    Piece(Frame::Plain, ElementType::Rejected(ASN1ErrorKind::Invalid)),
                 ),
                 Step(Ask::Next, INTEGER),
             ]),
@@ -173,7 +190,10 @@ pub static CALLS: [(&str, Read); 60] = [
             Body::Sequence(&[
                 Step(
                     Ask::OptionalDiscarded,
-                    Piece::Plain(ElementType::Rejected(ASN1ErrorKind::OutOfMemory)),
+                    Piece(
+                        Frame::Plain,
+                        ElementType::Rejected(ASN1ErrorKind::OutOfMemory),
+                    ),
                 ),
                 Step(Ask::Next, INTEGER),
             ]),
@@ -197,7 +217,7 @@ pub static CALLS: [(&str, Read); 60] = [
             Then::Shown,
             Body::Sequence(&[
                 Step(Ask::Buffered, INTEGER),
-                Step(Ask::Next, Piece::Plain(ElementType::Null)),
+                Step(Ask::Next, Piece(Frame::Plain, ElementType::Null)),
             ]),
         ),
     ),
@@ -207,29 +227,59 @@ pub static CALLS: [(&str, Read); 60] = [
         Read(
             Then::Shown,
             Body::Sequence(&[
-                Step(Ask::NextBuffered, Piece::Implicit(C3, ElementType::Bytes)),
-                Step(Ask::Next, Piece::Plain(ElementType::Null)),
+                Step(
+                    Ask::NextBuffered,
+                    Piece(Frame::Implicit(C3), ElementType::Bytes),
+                ),
+                Step(Ask::Next, Piece(Frame::Plain, ElementType::Null)),
             ]),
         ),
     ),
     // SEQUENCE OF, read item by item (X.690, 8.10)
-    ("seqof_i64", Read(Then::Shown, Body::SequenceOf(INTEGER))),
-    ("seqof_der", Read(Then::Shown, Body::SequenceOf(RAW))),
+    (
+        "seqof_i64",
+        Read(Then::Shown, Body::List(Group::SequenceOf, INTEGER)),
+    ),
+    (
+        "seqof_der",
+        Read(Then::Shown, Body::List(Group::SequenceOf, RAW)),
+    ),
     (
         "seqof_choice",
         Read(
             Then::Shown,
-            Body::SequenceOf(Piece::Plain(ElementType::Choice)),
+            Body::List(Group::SequenceOf, Piece(Frame::Plain, ElementType::Choice)),
         ),
     ),
-    ("seqof_sum", Read(Then::Shown, Body::SequenceSum)),
-    ("idle", Read(Then::Shown, Body::SequenceIdle)),
+    (
+        "seqof_sum",
+        Read(Then::Shown, Body::Each(Group::SequenceOf, ElementType::I64)),
+    ),
+    (
+        "idle",
+        Read(Then::Null, Body::Each(Group::SequenceOf, ElementType::Idle)),
+    ),
     // SET OF, written in the order of DER (X.690, 8.12 and 11.6)
-    ("setof_i64", Read(Then::Shown, Body::SetOf(INTEGER))),
-    ("setof_bytes", Read(Then::Shown, Body::SetOf(OCTETS))),
-    ("setof_der", Read(Then::Shown, Body::SetOf(RAW))),
-    ("setof_sum", Read(Then::Shown, Body::SetSum)),
-    ("setof_idle", Read(Then::Shown, Body::SetIdle)),
+    (
+        "setof_i64",
+        Read(Then::Shown, Body::List(Group::SetOf, INTEGER)),
+    ),
+    (
+        "setof_bytes",
+        Read(Then::Shown, Body::List(Group::SetOf, OCTETS)),
+    ),
+    (
+        "setof_der",
+        Read(Then::Shown, Body::List(Group::SetOf, RAW)),
+    ),
+    (
+        "setof_sum",
+        Read(Then::Shown, Body::Each(Group::SetOf, ElementType::I64)),
+    ),
+    (
+        "setof_idle",
+        Read(Then::Null, Body::Each(Group::SetOf, ElementType::Idle)),
+    ),
     // SET, whose elements are asked for by their tags (X.690, 8.11, 10.3 and 11.5)
     (
         "set_ib",
@@ -256,10 +306,10 @@ pub static CALLS: [(&str, Read); 60] = [
         Read(
             Then::Shown,
             Body::Set(&[
-                Choice::Next(C28, Piece::Implicit(C28, ElementType::I64)),
-                Choice::Next(C345678, Piece::Explicit(C345678, ElementType::Bytes)),
-                Choice::Next(C27, Piece::Explicit(C27, ElementType::I64)),
-                Choice::Next(C345677, Piece::Explicit(C345677, ElementType::Bytes)),
+                Choice::Next(C28, Piece(Frame::Implicit(C28), ElementType::I64)),
+                Choice::Next(C345678, Piece(Frame::Explicit(C345678), ElementType::Bytes)),
+                Choice::Next(C27, Piece(Frame::Explicit(C27), ElementType::I64)),
+                Choice::Next(C345677, Piece(Frame::Explicit(C345677), ElementType::Bytes)),
             ]),
         ),
     ),
@@ -267,7 +317,7 @@ pub static CALLS: [(&str, Read); 60] = [
         "set_seqel",
         Read(
             Then::Shown,
-            Body::Set(&[Choice::Next(TAG_SEQUENCE, Piece::Plain(ElementType::Nests))]),
+            Body::Set(&[Choice::Next(TAG_SEQUENCE, Piece(Frame::Plain, ElementType::Nests))]),
         ),
     ),
     (
@@ -292,87 +342,102 @@ pub static CALLS: [(&str, Read); 60] = [
             Body::Set(&[Choice::Optional(TAG_INTEGER, INTEGER), Choice::False]),
         ),
     ),
-    ("set_any", Read(Then::Shown, Body::SetAny)),
+    ("set_any", Read(Then::Shown, Body::Set(&[Choice::Any]))),
     // under tags of the caller's (X.690, 8.14)
     (
         "tag3_i64",
         Read(
             Then::Shown,
-            Body::Alone(Piece::Explicit(C3, ElementType::I64)),
+            Body::Alone(Piece(Frame::Explicit(C3), ElementType::I64)),
         ),
     ),
     (
         "tag31_null",
         Read(
             Then::Shown,
-            Body::Alone(Piece::Explicit(C31, ElementType::Null)),
+            Body::Alone(Piece(Frame::Explicit(C31), ElementType::Null)),
         ),
     ),
     (
         "itag3_i64",
         Read(
             Then::Shown,
-            Body::Alone(Piece::Implicit(C3, ElementType::I64)),
+            Body::Alone(Piece(Frame::Implicit(C3), ElementType::I64)),
         ),
     ),
     (
         "itag3_again",
         Read(
             Then::Shown,
-            Body::Alone(Piece::Implicit(C3, ElementType::Again)),
+            Body::Alone(Piece(Frame::Implicit(C3), ElementType::Again)),
         ),
     ),
     (
         "itag3_bytes",
         Read(
             Then::Shown,
-            Body::Alone(Piece::Implicit(C3, ElementType::Bytes)),
+            Body::Alone(Piece(Frame::Implicit(C3), ElementType::Bytes)),
         ),
     ),
     (
         "itag3_bits",
         Read(
             Then::Shown,
-            Body::Alone(Piece::Implicit(C3, ElementType::Bits)),
+            Body::Alone(Piece(Frame::Implicit(C3), ElementType::Bits)),
         ),
     ),
     (
         "itag3_utf8",
         Read(
             Then::Shown,
-            Body::Alone(Piece::Implicit(C3, ElementType::Text(Class::Utf8))),
+            Body::Alone(Piece(Frame::Implicit(C3), ElementType::Text(Class::Utf8))),
         ),
     ),
     (
         "itag3_tag4",
         Read(
-            Then::Shown,
-            Body::Implicit(Piece::Explicit(C4, ElementType::I64)),
+            Then::Under(C3),
+            Body::Alone(Piece(Frame::Explicit(C4), ElementType::I64)),
         ),
     ),
     (
         "itag3_itag4",
         Read(
-            Then::Shown,
-            Body::Implicit(Piece::Implicit(C4, ElementType::I64)),
+            Then::Under(C3),
+            Body::Alone(Piece(Frame::Implicit(C4), ElementType::I64)),
         ),
     ),
     (
         "itag31_seq",
         Read(
-            Then::Shown,
-            Body::ImplicitSequence(&[Step(Ask::Next, INTEGER), Step(Ask::Next, BOOLEAN)]),
+            Then::Under(P1000),
+            Body::Sequence(&[Step(Ask::Next, INTEGER), Step(Ask::Next, BOOLEAN)]),
         ),
     ),
-    ("lookder", Read(Then::Shown, Body::Alone(Piece::LookedAt))),
+    (
+        "lookder",
+        Read(
+            Then::Shown,
+            Body::Alone(Piece(Frame::LookedAt, ElementType::Raw)),
+        ),
+    ),
     (
         "rec",
-        Read(Then::Shown, Body::Alone(Piece::Plain(ElementType::Nests))),
+        Read(
+            Then::Shown,
+            Body::Alone(Piece(Frame::Plain, ElementType::Nests)),
+        ),
     ),
     ("tree", Read(Then::Shown, Body::Tree)),
     // of which something else is shown
-    ("idle_collect", Read(Then::Null, Body::SequenceOf(IDLE))),
-    ("setof_idle_collect", Read(Then::Null, Body::SetOf(IDLE))),
+    (
+        "idle_collect",
+        Read(Then::Null, Body::List(Group::SequenceOf, IDLE)),
+    ),
+    (
+        "setof_idle_collect",
+        Read(Then::Null, Body::List(Group::SetOf, IDLE)),
+    ),
     (
         "set_drop",
         Read(Then::Null, Body::Set(&[Choice::Asked(TAG_INTEGER)])),
@@ -439,12 +504,15 @@ pub static CALLS: [(&str, Read); 60] = [
         "swallow_deep",
         Read(
             Then::Discarded,
-            Body::Alone(Piece::Plain(ElementType::Nest(101))),
+            Body::Alone(Piece(Frame::Plain, ElementType::Nest(101))),
         ),
     ),
     ("replace_bool", Read(Then::Replaced, Body::Alone(BOOLEAN))),
     (
         "replace_i8",
-        Read(Then::Replaced, Body::Alone(Piece::Plain(ElementType::I8))),
+        Read(
+            Then::Replaced,
+            Body::Alone(Piece(Frame::Plain, ElementType::I8)),
+        ),
     ),
 ];

@@ -199,8 +199,8 @@ fn show_tagged(value: &TaggedDerValue, text: &mut Text) {
     text.push_bytes(value.value());
 }
 
-/// Writes an object identifier; Err(Invalid) where it has no encoding.
-pub fn write_identifier(identifier: &ObjectIdentifier, writer: DERWriter<'_>) -> ASN1Result<()> {
+// Writes an object identifier; Err(Invalid) where it has no encoding.
+fn write_identifier(identifier: &ObjectIdentifier, writer: DERWriter<'_>) -> ASN1Result<()> {
     if identifier.is_encodable() {
         writer.write_oid(identifier)
     } else {

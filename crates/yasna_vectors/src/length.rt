@@ -8,46 +8,44 @@
 //!
 //! The answer shows how many bytes were written and the first 16 of these.
 
-use crate::nest::{Inner, write_within};
+use crate::calls::BIG_NUMBER;
+use crate::leaf::Leaf;
+use crate::parts::{Element, Group, Part, append};
+use crate::reading::{encoding_of, parse};
 use crate::text::Text;
-use std::alloc::Global;
-use yasna::{ASN1Result, BERReader, BERReaderSeq, construct_der, parse_der};
+use std::alloc::{AllocError, Global};
+use yasna::{ASN1Result, BERMode, construct_der};
 
 /// What the call of this name returns, on so many bytes.
 pub fn outcome(alloc: Global, name: &str, count: usize) -> Text {
-    let byte = if name == "seqbigint" { 1u8 } else { 91 };
-    let Ok(contents) = vec![in alloc; byte; count] else {
+    let Ok(element) = sequence(alloc, name, count) else {
         return Text::when_out_of_memory(alloc);
     };
-    match encoding_named(alloc, name, &contents) {
-        Ok(Some(encoding)) => size_and_prefix(alloc, &encoding),
-        Ok(None) => Text::new(alloc, "read back as another number"),
+    let written = match name {
+        "seqseqlen" => {
+            construct_der(
+                alloc,
+                |writer| writer.write_sequence(|seq| element.write(seq.next())),
+            )
+        }
+        _ => encoding_of(alloc, BERMode::Der, &element),
+    };
+    match written {
+        Ok(encoding) if name == "seqbigint" => read_back(alloc, &encoding, &element),
+        Ok(encoding) => size_and_prefix(alloc, &encoding),
         Err(error) => Text::rejected(alloc, error.kind()),
     }
 }
 
-// What the call of this name writes of contents; none where they are read back as others.
-fn encoding_named(alloc: Global, name: &str, contents: &[u8]) -> ASN1Result<Option<Vec<u8>>> {
-    match name {
-        "seqbigint" => number_encoding(alloc, contents),
-        "seqlen" => Ok(Some(encoding_of(alloc, 1, Inner::Octets(contents))?)),
-        _ => Ok(Some(encoding_of(alloc, 2, Inner::Octets(contents))?)),
-    }
-}
-
-// What is written of this in so many SEQUENCEs.
-fn encoding_of(alloc: Global, depth: u8, inner: Inner<'_>) -> ASN1Result<Vec<u8>> {
-    construct_der(alloc, |writer| write_within(writer, depth, inner))
-}
-
-// What a number of these contents is written as; none where it is read back as another one.
-fn number_encoding(alloc: Global, number: &[u8]) -> ASN1Result<Option<Vec<u8>>> {
-    let encoding = encoding_of(alloc, 1, Inner::BigInteger(number))?;
-    Ok(if is_read_back(alloc, &encoding, number)? {
-        Some(encoding)
-    } else {
-        None
-    })
+// A SEQUENCE of a value of so many bytes.
+fn sequence(alloc: Global, name: &str, count: usize) -> Result<Element, AllocError> {
+    let leaf = match name {
+        "seqbigint" => Leaf::BigInteger(vec![in alloc; 1u8; count]?, true),
+        _ => Leaf::Bytes(vec![in alloc; 91u8; count]?),
+    };
+    let mut parts = Vec::new(alloc);
+    append(&mut parts, Part::plain(leaf))?;
+    Ok(Element::group(Group::Sequence, parts))
 }
 
 // How many bytes there are, and the first 16.
@@ -59,18 +57,28 @@ fn size_and_prefix(alloc: Global, encoding: &[u8]) -> Text {
     text
 }
 
-// Whether these bytes end in the number, and are read as it.
-fn is_read_back(alloc: Global, encoding: &[u8], number: &[u8]) -> ASN1Result<bool> {
-    let (contents, positive) = parse_der(alloc, encoding, read_number)?;
-    Ok(positive && contents.as_slice() == number && encoding.ends_with(number))
+// How many bytes there are, and the first 16, if they end in the number and are read as it.
+fn read_back(alloc: Global, encoding: &[u8], written: &Element) -> Text {
+    match parse(alloc, BERMode::Der, BIG_NUMBER, encoding) {
+        Ok(read) => match (number_of(&read), number_of(written)) {
+            (Some(read), Some(number)) if read == number && encoding.ends_with(number) => {
+                size_and_prefix(alloc, encoding)
+            }
+            _ => Text::new(alloc, "read back as another number"),
+        },
+        Err(error) => Text::rejected(alloc, error.kind()),
+    }
 }
 
-// Reads a SEQUENCE of an INTEGER.
-fn read_number(reader: BERReader) -> ASN1Result<(Vec<u8>, bool)> {
-    reader.read_sequence(read_contents)
-}
-
-// Reads an INTEGER, the next part.
-fn read_contents(seq: &mut BERReaderSeq) -> ASN1Result<(Vec<u8>, bool)> {
-    seq.next().read_bigint_bytes()
+// The contents of the INTEGER that a SEQUENCE holds, if it isn't negative.
+fn number_of(element: &Element) -> Option<&[u8]> {
+    match element.parts()? {
+        [
+            Part {
+                leaf: Leaf::BigInteger(contents, true),
+                ..
+            },
+        ] => Some(contents.as_slice()),
+        _ => None,
+    }
 }

@@ -11,7 +11,6 @@
 
 use crate::calls::{BYTES, NUMBERS};
 use crate::leaf::Leaf;
-use crate::line::Case;
 use crate::outcome::Outcome;
 use crate::parts::{Element, Group, Part, append};
 use crate::reading::{encoding_of, parse};
@@ -20,15 +19,15 @@ use std::alloc::{AllocError, Global};
 use yasna::{ASN1Result, BERMode, construct_der};
 
 /// What a call of this family returns.
-pub fn outcome(alloc: Global, mode: BERMode, case: &Case) -> Outcome {
-    let (count, size) = match case.arg.split_once('/') {
+pub fn outcome(alloc: Global, mode: BERMode, call: &str, arg: &str) -> Outcome {
+    let (count, size) = match arg.split_once('/') {
         Some((count, size)) => (count, Some(size.parse().ok()?)),
-        None => (case.arg, None),
+        None => (arg, None),
     };
     let count = count.parse().ok()?;
     Some(shown(
         alloc,
-        match case.call {
+        match call {
             "seqof_many" => collected(alloc, mode, count),
             "whole" | "cut" => octets(alloc, mode, count, size),
             _ => return None,
@@ -44,7 +43,8 @@ fn shown(alloc: Global, counts: ASN1Result<(usize, usize)>) -> Text {
     }
 }
 
-// What reading so many bytes returns, in segments of so many.
+// What reading so many bytes returns, in segments of so many: how many are read, if they are these, and how many are written of
+// them.
 fn octets(
     alloc: Global,
     mode: BERMode,
@@ -52,8 +52,16 @@ fn octets(
     segment: Option<usize>,
 ) -> ASN1Result<(usize, usize)> {
     let bytes = counting(alloc, count)?;
-    let encoded = encoded(alloc, &bytes, segment)?;
-    read_back(alloc, mode, &encoded, &bytes)
+    let encoded = match segment {
+        None => whole(alloc, &bytes)?,
+        Some(size) => cut(alloc, &bytes, size)?,
+    };
+    let element = parse(alloc, mode, BYTES, &encoded)?;
+    let written = encoding_of(alloc, mode, &element)?;
+    match element.leaf() {
+        Some(Leaf::Bytes(read)) if *read == bytes => Ok((read.len(), written.len())),
+        _ => Ok((0, 0)),
+    }
 }
 
 // So many bytes, none like its neighbours.
@@ -65,14 +73,6 @@ fn counting(alloc: Global, count: usize) -> Result<Vec<u8>, AllocError> {
         next = next.wrapping_add(7);
     }
     Ok(bytes)
-}
-
-// The bytes as one element, or in segments.
-fn encoded(alloc: Global, bytes: &[u8], segment: Option<usize>) -> ASN1Result<Vec<u8>> {
-    match segment {
-        None => whole(alloc, bytes),
-        Some(size) => cut(alloc, bytes, size),
-    }
 }
 
 // The bytes as one element.
@@ -88,21 +88,6 @@ fn cut(alloc: Global, bytes: &[u8], size: usize) -> ASN1Result<Vec<u8>> {
     }
     all.extend_from_slice(&[0, 0])?;
     Ok(all)
-}
-
-// How many bytes are read, if they are these, and how many are written of them.
-fn read_back(
-    alloc: Global,
-    mode: BERMode,
-    encoded: &[u8],
-    bytes: &[u8],
-) -> ASN1Result<(usize, usize)> {
-    let element = parse(alloc, mode, BYTES, encoded)?;
-    let written = encoding_of(alloc, mode, &element)?;
-    match element.octets() {
-        Some(read) if read == bytes => Ok((read.len(), written.len())),
-        _ => Ok((0, 0)),
-    }
 }
 
 // How many numbers are collected of so many that are written, and in how many bytes.

@@ -51,7 +51,7 @@ impl Nested {
 
     /// Writes the SEQUENCEs.
     pub fn write(&self, writer: DERWriter<'_>) -> ASN1Result<()> {
-        write_within(writer, self.depth, Inner::Number(self.number))
+        write_within(writer, self.depth, self.number)
     }
 }
 
@@ -90,23 +90,10 @@ pub fn read_nests(reader: BERReader) -> ASN1Result<Nested> {
     )
 }
 
-/// What is in the innermost SEQUENCE.
-#[derive(Clone, Copy)]
-pub enum Inner<'a> {
-    Number(i64),
-    /// An INTEGER of these contents.
-    BigInteger(&'a [u8]),
-    Octets(&'a [u8]),
-}
-
-/// Writes so many SEQUENCEs around this.
-pub fn write_within(writer: DERWriter<'_>, depth: u8, inner: Inner<'_>) -> ASN1Result<()> {
-    if let Some(below) = depth.checked_sub(1) {
-        return writer.write_sequence(|seq| write_within(seq.next(), below, inner));
-    }
-    match inner {
-        Inner::Number(number) => writer.write_i64(number),
-        Inner::BigInteger(contents) => writer.write_bigint_bytes(contents, true),
-        Inner::Octets(octets) => writer.write_bytes(octets),
+// Writes so many SEQUENCEs around a number.
+fn write_within(writer: DERWriter<'_>, depth: u8, number: i64) -> ASN1Result<()> {
+    match depth.checked_sub(1) {
+        None => writer.write_i64(number),
+        Some(below) => writer.write_sequence(|seq| write_within(seq.next(), below, number)),
     }
 }

@@ -15,13 +15,15 @@ pub type Outcome = Option<Text>;
 /// What the call of a case returns, as text.
 pub fn outcome(alloc: Global, case: &Case) -> Option<Result<String, AllocError>> {
     let text = match case.mode {
-        None => outcome_alone(alloc, case)?,
+        None => outcome_alone(alloc, case.call, case.arg)?,
         Some(mode) if case.takes_bytes() => match case.bytes(alloc)? {
             Ok(bytes) => outcome_on(alloc, mode, case, &bytes)?,
             Err(_) => Text::when_out_of_memory(alloc),
         },
-        Some(mode) if case.call.contains(':') => rejecting_closures::outcome(alloc, mode, case)?,
-        Some(mode) => many::outcome(alloc, mode, case)?,
+        Some(mode) if case.call.contains(':') => {
+            rejecting_closures::outcome(alloc, mode, case.call, case.arg)?
+        }
+        Some(mode) => many::outcome(alloc, mode, case.call, case.arg)?,
     };
     Some(text.finish())
 }
@@ -37,10 +39,8 @@ pub fn outcome_or_unknown(alloc: Global, case: &Case) -> Result<String, AllocErr
 // What it returns on these bytes.
 fn outcome_on(alloc: Global, mode: BERMode, case: &Case, bytes: &[u8]) -> Outcome {
     match case.call {
-        "mode" => Some(mode::outcome_alone(alloc, mode, bytes)),
-        "seq_mode" => Some(mode::outcome_within(alloc, mode, bytes)),
-        "general" => Some(mode::outcome_number(alloc, mode, bytes)),
-        call if call.starts_with("d:") || call.starts_with("tup") => {
+        "mode" | "seq_mode" => Some(mode::outcome(alloc, mode, case.call, bytes)),
+        call if call.starts_with("d:") || call.starts_with("tup") || call == "general" => {
             whole::outcome(alloc, mode, call, bytes)
         }
         call if call.contains(':') => sticky_errors::outcome(alloc, mode, call, bytes),
@@ -49,13 +49,13 @@ fn outcome_on(alloc: Global, mode: BERMode, case: &Case, bytes: &[u8]) -> Outcom
 }
 
 // What it returns where no bytes are read.
-fn outcome_alone(alloc: Global, case: &Case) -> Outcome {
-    match case.call.split_once(':') {
-        Some(("w" | "tw" | "ws" | "tws", _)) => writing::outcome(alloc, case),
-        Some(("p", _)) => times::outcome(alloc, case),
-        Some(("o", _)) => oid::outcome(alloc, case),
-        Some(_) => rejecting_closures::outcome(alloc, BERMode::Der, case),
-        None if case.call == "text" || case.call == "own" => rejection::outcome(alloc, case),
-        None => tag::outcome(alloc, case),
+fn outcome_alone(alloc: Global, call: &str, arg: &str) -> Outcome {
+    match call.split_once(':') {
+        Some(("w" | "tw" | "ws" | "tws", _)) => writing::outcome(alloc, call, arg),
+        Some(("p", _)) => times::outcome(alloc, call, arg),
+        Some(("o", _)) => oid::outcome(alloc, call, arg),
+        Some(_) => rejecting_closures::outcome(alloc, BERMode::Der, call, arg),
+        None if call == "text" || call == "own" => rejection::outcome(alloc, call, arg),
+        None => tag::outcome(alloc, call, arg),
     }
 }

@@ -17,32 +17,29 @@ use crate::text::Text;
 use std::alloc::{AllocError, Global};
 use yasna::{ASN1Result, BERReader, DERWriter, DERWriterSeq, DERWriterSet, Tag};
 
-/// What a part is read as: a value, or one under a tag.
-#[derive(Clone, Copy)]
-pub enum Piece {
-    Plain(ElementType),
-    Explicit(Tag, ElementType),
-    Implicit(Tag, ElementType),
-    /// An element as it is, under the tag that lookahead_tag returns.
-    LookedAt,
-}
-
 /// How a part is where it was read.
 #[derive(Clone, Copy)]
-enum Frame {
+pub enum Frame {
     Plain,
     Explicit(Tag),
     Implicit(Tag),
+    /// Under the tag that lookahead_tag returns, which its read takes too.
+    LookedAt,
+    /// Shown, and not written.
     Unwritten,
 }
+
+/// What a part is read as: the tag that it is under, and the type of its value.
+#[derive(Clone, Copy)]
+pub struct Piece(pub Frame, pub ElementType);
 
 /// A part, or an element alone.
 #[derive(Drop)]
 pub struct Part {
-    frame: Frame,
-    leaf: Leaf,
-    // the bytes that it took, where they are shown
-    taken: Option<Vec<u8>>,
+    pub frame: Frame,
+    pub leaf: Leaf,
+    /// The bytes that it took, where they are shown.
+    pub taken: Option<Vec<u8>>,
 }
 
 /// What holds parts.
@@ -72,41 +69,34 @@ pub struct Element {
 impl Piece {
     /// Reads such a part.
     pub fn read(self, reader: BERReader) -> ASN1Result<Part> {
-        match self {
-            Piece::Plain(kind) => Ok(Part::plain(kind.read(reader)?)),
-            Piece::Explicit(tag, kind) => {
-                let leaf = reader.read_tagged(tag, |inner| kind.read(inner))?;
-                Ok(Part::explicit(tag, leaf))
-            }
-            Piece::Implicit(tag, kind) => {
-                let leaf = reader.read_tagged_implicit(tag, |inner| kind.read(inner))?;
-                Ok(Part::implicit(tag, leaf))
-            }
-            Piece::LookedAt => {
+        let Piece(frame, kind) = self;
+        let read = |inner: BERReader| kind.read(inner);
+        match frame {
+            Frame::Explicit(tag) => Ok(Part::new(frame, reader.read_tagged(tag, read)?)),
+            Frame::Implicit(tag) => Ok(Part::new(frame, reader.read_tagged_implicit(tag, read)?)),
+            Frame::LookedAt => {
                 let tag = reader.lookahead_tag()?;
-                Ok(Part::implicit(tag, Leaf::Raw(reader.read_der()?)))
+                Ok(Part::new(Frame::Implicit(tag), kind.read(reader)?))
             }
+            Frame::Plain | Frame::Unwritten => Ok(Part::new(frame, kind.read(reader)?)),
         }
     }
 
     /// The part that a text is.
     pub fn value(self, alloc: Global, text: &str) -> Option<Result<Part, AllocError>> {
-        let (frame, kind) = match self {
-            Piece::Plain(kind) => (Frame::Plain, kind),
-            Piece::Explicit(tag, kind) => (Frame::Explicit(tag), kind),
-            Piece::Implicit(tag, kind) => (Frame::Implicit(tag), kind),
-            Piece::LookedAt => return None,
-        };
-        match kind.value(alloc, text)? {
-            Ok(leaf) => Some(Ok(Part::new(frame, leaf))),
+        if let Frame::LookedAt = self.0 {
+            return None;
+        }
+        match self.1.value(alloc, text)? {
+            Ok(leaf) => Some(Ok(Part::new(self.0, leaf))),
             Err(out_of_memory) => Some(Err(out_of_memory)),
         }
     }
 }
 
 impl Part {
-    // The part of this value.
-    fn new(frame: Frame, leaf: Leaf) -> Part {
+    /// The part of this value.
+    pub fn new(frame: Frame, leaf: Leaf) -> Part {
         Part {
             frame,
             leaf,
@@ -119,46 +109,15 @@ impl Part {
         Part::new(Frame::Plain, leaf)
     }
 
-    /// A value under an explicit tag.
-    pub fn explicit(tag: Tag, leaf: Leaf) -> Part {
-        Part::new(Frame::Explicit(tag), leaf)
-    }
-
-    /// A value under an implicit tag.
-    pub fn implicit(tag: Tag, leaf: Leaf) -> Part {
-        Part::new(Frame::Implicit(tag), leaf)
-    }
-
     /// A value that is shown and not written.
     pub fn unwritten(leaf: Leaf) -> Part {
         Part::new(Frame::Unwritten, leaf)
     }
 
-    /// The part's value under an explicit tag.
-    pub fn under_explicit(self, tag: Tag) -> Part {
-        Part::explicit(tag, self.leaf)
-    }
-
-    /// A part that isn't there.
-    pub fn absent() -> Part {
-        Part::unwritten(Leaf::Absent)
-    }
-
     /// The part, with the bytes that it was read from.
-    pub fn with_taken(self, taken: Vec<u8>) -> Part {
-        Part {
-            frame: self.frame,
-            leaf: self.leaf,
-            taken: Some(taken),
-        }
-    }
-
-    // The octets that it is, if it is an OCTET STRING.
-    fn octets(&self) -> Option<&[u8]> {
-        match &self.leaf {
-            Leaf::Bytes(octets) => Some(octets.as_slice()),
-            _ => None,
-        }
+    pub fn with_taken(mut self, alloc: Global, taken: &[u8]) -> ASN1Result<Part> {
+        self.taken = Some(Vec::from_slice(alloc, taken)?);
+        Ok(self)
     }
 
     // Whether it is written.
@@ -190,10 +149,10 @@ impl Part {
     fn write(&self, writer: DERWriter<'_>) -> ASN1Result<()> {
         let write = |inner: DERWriter<'_>| self.leaf.write(inner);
         match self.frame {
-            Frame::Plain => self.leaf.write(writer),
             Frame::Explicit(tag) => writer.write_tagged(tag, write),
             Frame::Implicit(tag) => writer.write_tagged_implicit(tag, write),
             Frame::Unwritten => Ok(()),
+            Frame::Plain | Frame::LookedAt => self.leaf.write(writer),
         }
     }
 }
@@ -230,9 +189,9 @@ impl Element {
         }
     }
 
-    /// NULL.
-    pub fn null() -> Element {
-        Element::alone(Part::plain(Leaf::Null))
+    /// A value alone.
+    pub fn value(leaf: Leaf) -> Element {
+        Element::alone(Part::plain(leaf))
     }
 
     /// These parts.
@@ -257,7 +216,7 @@ impl Element {
             Contents::Alone(part) => Element::alone(part),
             Contents::Parts(_, mut parts) => match parts.pop() {
                 Some(part) => Element::alone(part),
-                None => Element::null(),
+                None => Element::value(Leaf::Null),
             },
         }
     }
@@ -294,10 +253,10 @@ impl Element {
         }
     }
 
-    /// The octets that it is, if it is an OCTET STRING alone.
-    pub fn octets(&self) -> Option<&[u8]> {
+    /// The value that it is, if it is one alone.
+    pub fn leaf(&self) -> Option<&Leaf> {
         match &self.contents {
-            Contents::Alone(part) => part.octets(),
+            Contents::Alone(part) => Some(&part.leaf),
             Contents::Parts(_, _) => None,
         }
     }

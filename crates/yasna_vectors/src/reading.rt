@@ -7,9 +7,7 @@ use crate::parts::Element;
 use crate::reads::Read;
 use crate::text::Text;
 use std::alloc::{AllocError, Global};
-use yasna::{
-    ASN1ErrorKind, ASN1Result, BERMode, BERReader, BERReaderSeq, parse_ber_general, parse_cer,
-};
+use yasna::{ASN1ErrorKind, ASN1Result, BERMode, BERReader, BERReaderSeq, parse_ber_general};
 
 /// What a call that reads returns on these bytes.
 pub fn outcome(alloc: Global, mode: BERMode, case: &Case, bytes: &[u8]) -> Outcome {
@@ -27,21 +25,14 @@ pub fn outcome(alloc: Global, mode: BERMode, case: &Case, bytes: &[u8]) -> Outco
             };
             both.outcome(mode, case, bytes, error.kind())
         }
-        read => Some(outcome_of(alloc, mode, read)),
+        Err(error) => Some(Text::rejected(alloc, error.kind())),
+        Ok(element) => Some(shown(alloc, mode, &element)),
     }
 }
 
 /// What a call reads of these bytes by the parse of this mode.
 pub fn parse(alloc: Global, mode: BERMode, read: Read, bytes: &[u8]) -> ASN1Result<Element> {
     parse_in(alloc, mode, bytes, |reader| read.read(alloc, reader))
-}
-
-// The answer of a read: its value and what is written of that, or its error.
-fn outcome_of(alloc: Global, mode: BERMode, read: ASN1Result<Element>) -> Text {
-    match read {
-        Ok(element) => shown(alloc, mode, &element),
-        Err(error) => Text::rejected(alloc, error.kind()),
-    }
 }
 
 /// The answer `ok`, with an element and what is written of it.
@@ -75,63 +66,49 @@ impl Both {
     // The answer of a call that was rejected, and whether the error is kept: both calls are made in a SEQUENCE of these
     // bytes, which hold no more than a length of one byte can say; in CER, where it would have no length, without one.
     fn outcome(self, mode: BERMode, case: &Case, bytes: &[u8], kind: ASN1ErrorKind) -> Outcome {
-        let mut kinds = Kinds {
-            first: None,
-            second: None,
-        };
-        let parsed = if mode == BERMode::Cer {
-            self.parse_alone(bytes, &mut kinds)
-        } else {
+        let mut whole = Vec::new(self.alloc);
+        if mode != BERMode::Cer {
             let length = u8::try_from(bytes.len()).ok()?;
             if length > 127 {
                 return None;
             }
-            match self.within(length, bytes) {
-                Ok(whole) => self.parse_within(mode, &whole, &mut kinds),
-                Err(_) => return Some(Text::when_out_of_memory(self.alloc)),
+            if whole.extend_from_slice(&[48, length]).is_err() {
+                return Some(Text::when_out_of_memory(self.alloc));
             }
+        }
+        if whole.extend_from_slice(bytes).is_err() {
+            return Some(Text::when_out_of_memory(self.alloc));
+        }
+        let mut kinds = Kinds {
+            first: None,
+            second: None,
         };
+        let parsed = kind_of(parse_ber_general(
+            self.alloc,
+            &whole,
+            mode,
+            |reader| self.read(reader, &mut kinds),
+        ));
         let mut text = Text::rejected(self.alloc, kind);
         text.push(kinds.mark(parsed, kind, case.second.is_some()));
         Some(text)
     }
 
-    // The bytes after the identifier of a SEQUENCE and this length.
-    fn within(self, length: u8, bytes: &[u8]) -> Result<Vec<u8>, AllocError> {
-        let mut whole = Vec::from_slice(self.alloc, &[48, length])?;
-        whole.extend_from_slice(bytes)?;
-        Ok(whole)
-    }
-
-    // Makes both calls in no SEQUENCE, in CER: why the parse was rejected.
-    fn parse_alone(self, bytes: &[u8], kinds: &mut Kinds) -> Option<ASN1ErrorKind> {
-        kind_of(parse_cer(self.alloc, bytes, move |reader| {
+    // Makes both calls, in CER in no SEQUENCE.
+    fn read(self, reader: BERReader, kinds: &mut Kinds) -> ASN1Result<()> {
+        if reader.mode() == BERMode::Cer {
             kinds.first = kind_of(self.first.read(self.alloc, reader));
             kinds.second = kind_of(self.second.read(self.alloc, reader));
-            Ok(())
-        }))
-    }
-
-    // Makes both calls in a SEQUENCE: why the parse around it was rejected.
-    fn parse_within(self, mode: BERMode, whole: &[u8], kinds: &mut Kinds) -> Option<ASN1ErrorKind> {
-        kind_of(parse_ber_general(
-            self.alloc,
-            whole,
-            mode,
-            move |reader| self.read_within(reader, kinds),
-        ))
-    }
-
-    // Makes both calls in a SEQUENCE.
-    fn read_within(self, reader: BERReader, kinds: &mut Kinds) -> ASN1Result<()> {
+            return Ok(());
+        }
         reader.read_sequence(move |seq| {
-            *kinds = self.refusals(seq);
+            *kinds = self.read_parts(seq);
             Ok(())
         })
     }
 
     // Makes both calls, whatever the first returns.
-    fn refusals(self, seq: &mut BERReaderSeq) -> Kinds {
+    fn read_parts(self, seq: &mut BERReaderSeq) -> Kinds {
         let first = kind_of(self.first.read(self.alloc, seq.next()));
         let second = kind_of(self.second.read(self.alloc, seq.next()));
         Kinds { first, second }

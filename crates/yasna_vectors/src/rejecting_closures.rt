@@ -11,7 +11,6 @@
 //! construct_cer where MODE is `cer`.
 
 use crate::encodings::construct_in;
-use crate::line::Case;
 use crate::names::named;
 use crate::outcome::Outcome;
 use crate::text::Text;
@@ -70,8 +69,22 @@ impl Calls {
 }
 
 /// What a call of this family returns.
-pub fn outcome(alloc: Global, mode: BERMode, case: &Case) -> Outcome {
-    let (name, calls) = case.call.split_once(':')?;
+pub fn outcome(alloc: Global, mode: BERMode, call: &str, arg: &str) -> Outcome {
+    let (depth, calls) = parsed(call, arg.parse().ok()?)?;
+    let encoding = construct_in(alloc, mode, |writer| calls.write_within(writer, depth));
+    let mut text = Text::new(alloc, "ok ");
+    text.push_value(&calls.number);
+    Some(text.with_encoding(encoding))
+}
+
+// How many calls these are, and which.
+fn parsed(text: &str, number: i64) -> Option<(u8, Calls)> {
+    let (name, calls) = text.split_once(':')?;
+    let rejection = match name {
+        "thrown" => None,
+        "refused" => Some(ASN1ErrorKind::Extra),
+        _ => return None,
+    };
     let (depth, outer, inner) = match calls.split_once('.') {
         Some((outer, inner)) => (2, outer, inner),
         None => (1, calls, calls),
@@ -79,15 +92,8 @@ pub fn outcome(alloc: Global, mode: BERMode, case: &Case) -> Outcome {
     let calls = Calls {
         inner: named(&CALLS, inner)?,
         outer: named(&CALLS, outer)?,
-        number: case.arg.parse().ok()?,
-        rejection: match name {
-            "thrown" => None,
-            "refused" => Some(ASN1ErrorKind::Extra),
-            _ => return None,
-        },
+        number,
+        rejection,
     };
-    let encoding = construct_in(alloc, mode, |writer| calls.write_within(writer, depth));
-    let mut text = Text::new(alloc, "ok ");
-    text.push_value(&calls.number);
-    Some(text.with_encoding(encoding))
+    Some((depth, calls))
 }

@@ -5,7 +5,6 @@
 //! | `text KIND` | the text of an error of this kind |
 //! | `own N` | what try_construct_der returns where the closure writes N in a sequence and returns an error of its own |
 
-use crate::line::Case;
 use crate::names::named;
 use crate::outcome::Outcome;
 use crate::text::Text;
@@ -23,10 +22,10 @@ static KINDS: [(&str, ASN1ErrorKind); 6] = [
 ];
 
 /// What a call of this family returns.
-pub fn outcome(alloc: Global, case: &Case) -> Outcome {
-    match case.call {
-        "text" => Some(text(alloc, named(&KINDS, case.arg)?)),
-        "own" => Some(own(alloc, case.arg.parse().ok()?)),
+pub fn outcome(alloc: Global, call: &str, arg: &str) -> Outcome {
+    match call {
+        "text" => Some(text(alloc, named(&KINDS, arg)?)),
+        "own" => Some(own(alloc, arg.parse().ok()?)),
         _ => None,
     }
 }

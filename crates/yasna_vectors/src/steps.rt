@@ -18,7 +18,9 @@
 //! | `AskedInVain` | the same, whatever next returns |
 //! | `Optional` | read_optional with this tag |
 //! | `False` | read_default of a BOOLEAN that is false where there is none; false is shown and not written |
+//! | `Any` | each element as it is, by next with the tags of each class that are numbered 0 to 199, as long as it gives one |
 
+use crate::calls::RAW;
 use crate::leaf::Leaf;
 use crate::parts::{Part, Piece, append};
 use std::alloc::Global;
@@ -52,6 +54,7 @@ pub enum Choice {
     AskedInVain(Tag),
     Optional(Tag, Piece),
     False,
+    Any,
 }
 
 /// Takes these steps in a SEQUENCE.
@@ -73,25 +76,26 @@ pub fn read_choices(
 ) -> ASN1Result<Vec<Part>> {
     let mut parts = Vec::new(alloc);
     for step in steps {
-        if let Some(part) = step.read(set)? {
+        if let Choice::Any = step {
+            read_any(alloc, set, &mut parts)?;
+        } else if let Some(part) = step.read(set)? {
             append(&mut parts, part)?;
         }
     }
     Ok(parts)
 }
 
-/// Reads the elements of a SET that have a tag numbered 0 to 199, each as it is.
-pub fn read_any(alloc: Global, piece: Piece, set: &mut BERReaderSet) -> ASN1Result<Vec<Part>> {
+// Reads the elements of a SET that have a tag numbered 0 to 199, each as it is.
+fn read_any(alloc: Global, set: &mut BERReaderSet, parts: &mut Vec<Part>) -> ASN1Result<()> {
     let tags = all_tags(alloc)?;
-    let mut parts = Vec::new(alloc);
     for _ in 0..u64::MAX {
         let part = match set.next(&tags) {
-            Ok(reader) => piece.read(reader)?,
+            Ok(reader) => RAW.read(reader)?,
             Err(_) => break,
         };
-        append(&mut parts, part)?;
+        append(parts, part)?;
     }
-    Ok(parts)
+    Ok(())
 }
 
 // The tags of each class that are numbered 0 to 199.
@@ -115,7 +119,7 @@ fn all_tags(alloc: Global) -> ASN1Result<Vec<Tag>> {
 /// Reads a part, and the bytes that it took.
 pub fn read_buffered(alloc: Global, piece: Piece, reader: BERReader) -> ASN1Result<Part> {
     let (part, taken) = reader.read_with_buffer(|inner| piece.read(inner))?;
-    Ok(part.with_taken(Vec::from_slice(alloc, taken)?))
+    part.with_taken(alloc, taken)
 }
 
 impl Step {
@@ -134,7 +138,10 @@ impl Step {
                 let _ = read_optional(piece, seq);
                 Ok(None)
             }
-            Ask::Buffered => Ok(Some(read_next_buffered(alloc, piece, seq)?)),
+            Ask::Buffered => {
+                let (part, taken) = seq.read_with_buffer(|parts| piece.read(parts.next()))?;
+                Ok(Some(part.with_taken(alloc, taken)?))
+            }
             Ask::NextBuffered => Ok(Some(read_buffered(alloc, piece, seq.next())?)),
             Ask::Rejected(kind) => Err(ASN1Error::new(kind)),
         }
@@ -143,16 +150,15 @@ impl Step {
 
 // Reads a part that may be absent.
 fn read_optional(piece: Piece, seq: &mut BERReaderSeq) -> ASN1Result<Option<Part>> {
-    match seq.read_optional(|part| piece.read(part))? {
-        Some(part) => Ok(Some(part)),
-        None => Ok(Some(Part::absent())),
-    }
+    Ok(shown(seq.read_optional(|part| piece.read(part))?))
 }
 
-// Reads the next part, and the bytes that it took.
-fn read_next_buffered(alloc: Global, piece: Piece, seq: &mut BERReaderSeq) -> ASN1Result<Part> {
-    let (part, taken) = seq.read_with_buffer(|parts| piece.read(parts.next()))?;
-    Ok(part.with_taken(Vec::from_slice(alloc, taken)?))
+// The part, or that it is absent.
+fn shown(part: Option<Part>) -> Option<Part> {
+    match part {
+        Some(part) => Some(part),
+        None => Some(Part::unwritten(Leaf::Absent)),
+    }
 }
 
 // Reads an INTEGER, 10 where there is none.
@@ -182,12 +188,10 @@ impl Choice {
                 Ok(None)
             }
             Choice::Optional(tag, piece) => {
-                match set.read_optional(&[tag], |part| piece.read(part))? {
-                    Some(part) => Ok(Some(part)),
-                    None => Ok(Some(Part::absent())),
-                }
+                Ok(shown(set.read_optional(&[tag], |part| piece.read(part))?))
             }
             Choice::False => Ok(Some(read_false(set)?)),
+            Choice::Any => Ok(None),
         }
     }
 }

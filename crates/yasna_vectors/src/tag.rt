@@ -9,7 +9,6 @@
 //! | `order TAG,TAG` | how the two compare |
 //! | `order_class`, `order_bit` | the same of classes by letter, and of `primitive` and `constructed` |
 
-use crate::line::Case;
 use crate::names::named;
 use crate::outcome::Outcome;
 use crate::text::Text;
@@ -74,11 +73,11 @@ static BITS: [(&str, PCBit); 2] = [
 ];
 
 /// What a call of this family returns.
-pub fn outcome(alloc: Global, case: &Case) -> Outcome {
-    Some(match case.call {
-        "tag" => shown(alloc, named(&TAGS, case.arg)?),
-        "tag_of" => shown(alloc, parsed(case.arg)?),
-        call => ordered(alloc, order(call, case.arg)?),
+pub fn outcome(alloc: Global, call: &str, arg: &str) -> Outcome {
+    Some(match call {
+        "tag" => shown(alloc, named(&TAGS, arg)?),
+        "tag_of" => shown(alloc, parsed(arg)?),
+        call => ordered(alloc, order(call, arg)?),
     })
 }
 

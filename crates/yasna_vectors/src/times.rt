@@ -5,9 +5,9 @@
 //! nanosecond; `p:gtimeoff` returns `-` in place of the encoding.
 
 use crate::leaf::{Leaf, show_generalized_time};
-use crate::line::{Case, bytes_of};
+use crate::line::bytes_of;
 use crate::outcome::Outcome;
-use crate::parts::{Element, Part};
+use crate::parts::Element;
 use crate::reading::shown;
 use crate::text::Text;
 use std::alloc::{AllocError, Global};
@@ -15,15 +15,15 @@ use yasna::BERMode;
 use yasna::models::{GeneralizedTime, Offset, UTCTime};
 
 /// What a call on a text returns.
-pub fn outcome(alloc: Global, case: &Case) -> Outcome {
-    let (offset, text) = match case.arg.split_once('/') {
+pub fn outcome(alloc: Global, call: &str, arg: &str) -> Outcome {
+    let (offset, text) = match arg.split_once('/') {
         Some((seconds, text)) => (Some(offset(seconds)?), text),
-        None => (None, case.arg),
+        None => (None, arg),
     };
     let Ok(bytes) = bytes_of(alloc, text)? else {
         return Some(Text::when_out_of_memory(alloc));
     };
-    Some(match (case.call, offset) {
+    Some(match (call, offset) {
         ("p:utime", None) => utc_outcome(alloc, UTCTime::parse(&bytes)),
         ("p:gtime", None) => general_outcome(alloc, GeneralizedTime::parse(alloc, &bytes)),
         ("p:gtimeoff", Some(offset)) => local_outcome(
@@ -64,7 +64,7 @@ fn general_outcome(alloc: Global, parsed: Result<Option<GeneralizedTime>, AllocE
 
 // The answer with a time.
 fn time_outcome(alloc: Global, time: Leaf) -> Text {
-    shown(alloc, BERMode::Der, &Element::alone(Part::plain(time)))
+    shown(alloc, BERMode::Der, &Element::value(time))
 }
 
 // Shows the parts of a time's fraction.

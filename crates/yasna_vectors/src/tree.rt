@@ -13,7 +13,7 @@ ghost use Rattle.yasna.specs.reader.State.{IsFresh};
 
 use crate::kind::ElementType;
 use crate::leaf::Leaf;
-use crate::parts::{Element, Group, Part, Piece};
+use crate::parts::{Element, Frame, Group, Part, Piece};
 use crate::reading::encoding_of;
 use crate::strings::Class;
 use crate::text::Text;
@@ -42,36 +42,22 @@ static KINDS: [(Tag, ElementType); 10] = [
 pub fn read_tree(alloc: Global, reader: BERReader) -> ASN1Result<Part> {
     let tag = reader.lookahead_tag()?;
     let mode = reader.mode();
+    let read = |inner: BERReader| -> ASN1Result<Part>
+        requires { IsFresh inner.old }
+    { read_tree(alloc, inner) };
     let element = match tag.tag_class {
-        TagClass::Application => Element::alone(Piece::Implicit(tag, ElementType::Bytes).read(
-            reader,
-        )?),
+        TagClass::Application => {
+            Element::alone(Piece(Frame::Implicit(tag), ElementType::Bytes).read(reader)?)
+        }
         TagClass::ContextSpecific => {
-            let inner = reader.read_tagged(
-                tag,
-                |inner| -> ASN1Result<Part>
-                    requires { IsFresh inner.old }
-                { read_tree(alloc, inner) },
-            )?;
-            Element::alone(inner.under_explicit(tag))
+            let inner = reader.read_tagged(tag, read)?;
+            Element::alone(Part::new(Frame::Explicit(tag), inner.leaf))
         }
         _ if tag == TAG_SEQUENCE => {
-            let items = reader.collect_sequence_of(
-                |item| -> ASN1Result<Part>
-                    requires { IsFresh item.old }
-                { read_tree(alloc, item) },
-            )?;
-            Element::group(Group::SequenceOf, items)
+            Element::group(Group::SequenceOf, reader.collect_sequence_of(read)?)
         }
-        _ if tag == TAG_SET => {
-            let items = reader.collect_set_of(
-                |item| -> ASN1Result<Part>
-                    requires { IsFresh item.old }
-                { read_tree(alloc, item) },
-            )?;
-            Element::group(Group::SetOf, items)
-        }
-        _ => Element::alone(Piece::Plain(kind_of(tag)).read(reader)?),
+        _ if tag == TAG_SET => Element::group(Group::SetOf, reader.collect_set_of(read)?),
+        _ => Element::alone(Piece(Frame::Plain, kind_of(tag)).read(reader)?),
     };
     known(alloc, mode, &element)
 }

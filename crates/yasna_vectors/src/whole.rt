@@ -13,7 +13,7 @@
 //! | `vbytes`, `vtext` | `Vec<Vec<u8>>`, `Vec<String>` |
 //! | `tdv`, `vtdv` | `TaggedDerValue`, `Vec<TaggedDerValue>`, by decode_ber_general; written by write_tagged_der |
 //!
-//! `tup1`, `tup3` and `tup12` are tuples of `i64`.
+//! `tup1`, `tup3` and `tup12` are tuples of `i64`. `general` is decode_ber_general of an `i64`.
 
 use crate::encodings::encode_in;
 use crate::leaf::{
@@ -56,6 +56,7 @@ enum Type {
     Identifier,
     UtcTime,
     GeneralizedTime,
+    General,
     Raw,
     Raws,
     Pair,
@@ -75,7 +76,8 @@ enum Type {
 }
 
 // The types by their names.
-static TYPES: [(&str, Type); 29] = [
+static TYPES: [(&str, Type); 30] = [
+    ("general", Type::General),
     ("d:null", Type::Null),
     ("d:bool", Type::Bool),
     ("d:int", Type::I64),
@@ -124,6 +126,7 @@ impl Type {
             Type::Identifier => decoded(alloc, mode, bytes, show_identifier),
             Type::UtcTime => decoded(alloc, mode, bytes, show_utc_time),
             Type::GeneralizedTime => decoded(alloc, mode, bytes, show_generalized_time),
+            Type::General => general(alloc, mode, bytes),
             Type::Raw => raw(alloc, mode, bytes),
             Type::Raws => raws(alloc, mode, bytes),
             _ => self.composed(alloc, mode, bytes),
@@ -237,14 +240,18 @@ fn show_mixed(value: &(u16, (), Vec<u8>), text: &mut Text) {
     text.push(")");
 }
 
+// What decoding a number in this mode returns, and its own write after it.
+fn general(alloc: Global, mode: BERMode, bytes: &[u8]) -> Text {
+    match decode_ber_general(alloc, bytes, mode) {
+        Ok(number) => shown(alloc, mode, &Element::value(Leaf::I64(number))),
+        Err(error) => Text::rejected(alloc, error.kind()),
+    }
+}
+
 // What decoding a raw element returns, and its own write after it.
 fn raw(alloc: Global, mode: BERMode, bytes: &[u8]) -> Text {
     match decode_ber_general(alloc, bytes, mode) {
-        Ok(value) => shown(
-            alloc,
-            mode,
-            &Element::alone(Part::plain(Leaf::Tagged(value))),
-        ),
+        Ok(value) => shown(alloc, mode, &Element::value(Leaf::Tagged(value))),
         Err(error) => Text::rejected(alloc, error.kind()),
     }
 }

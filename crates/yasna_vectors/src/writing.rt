@@ -22,7 +22,6 @@
 
 use crate::leaf::Leaf;
 use crate::length;
-use crate::line::Case;
 use crate::nest::Nested;
 use crate::outcome::Outcome;
 use crate::parts::{Element, Group, Part, write_parts};
@@ -37,12 +36,12 @@ use yasna::{
 };
 
 /// What a call of this family returns.
-pub fn outcome(alloc: Global, case: &Case) -> Outcome {
-    let (around, name) = case.call.split_once(':')?;
+pub fn outcome(alloc: Global, call: &str, arg: &str) -> Outcome {
+    let (around, name) = call.split_once(':')?;
     if let "seqbigint" | "seqlen" | "seqseqlen" = name {
-        return Some(length::outcome(alloc, name, case.arg.parse().ok()?));
+        return Some(length::outcome(alloc, name, arg.parse().ok()?));
     }
-    match element(alloc, name, case.arg)? {
+    match element(alloc, name, arg)? {
         Ok(element) => {
             let encoding = encoding_in(alloc, around, &element)?;
             let mut text = Text::new(alloc, "ok ");
