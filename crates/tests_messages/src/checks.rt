@@ -4,8 +4,8 @@ use std::alloc::Global;
 use std::process::Abort;
 use yasna::{
     ASN1Error, ASN1ErrorKind, ASN1Result, BERDecodable, BERMode, DERCanonical, DEREncodable,
-    DERExact, decode_ber, decode_ber_general, decode_cer, decode_der, encode_cer, encode_der,
-    one_der_encoding, one_encoding,
+    DERExact, PrependBuffer, construct_cer, construct_der, decode_ber, decode_ber_general,
+    decode_cer, decode_der, encode_cer, encode_der, one_der_encoding, one_encoding,
 };
 
 /// What is so of a row's bytes.
@@ -81,22 +81,55 @@ pub fn gives(outcome: ASN1Result<Vec<u8>>, bytes: &[u8]) -> bool {
     }
 }
 
-fn rewritten<T: BERDecodable + DEREncodable + DERExact>(
+// Whether a value is written as these bytes from its last byte to its first, and from its first byte to its last, and is as long as it
+// says. In CER a length needn't be known.
+fn is_written_as<T: DEREncodable>(
     alloc: Global,
+    value: &T,
+    mode: BERMode,
     bytes: &[u8],
-) -> ASN1Result<Vec<u8>> {
-    one_der_encoding::<T>();
-    let value: T = decode_der(alloc, bytes)?;
-    encode_der(alloc, &value)
+) -> ASN1Result<bool>
+    requires { T.encodable value.now }
+{
+    let mut out = PrependBuffer::new(alloc, mode);
+    value.prepend_der(&mut out)?;
+    let backwards = out.finish()?;
+    let (whole, forwards) = match mode {
+        BERMode::Cer => (
+            encode_cer(alloc, value)?,
+            construct_cer(alloc, |writer| value.encode_der(writer))?,
+        ),
+        _ => (
+            encode_der(alloc, value)?,
+            construct_der(alloc, |writer| value.encode_der(writer))?,
+        ),
+    };
+    let has_len = match value.encoded_len(mode) {
+        Some(len) => len == bytes.len(),
+        None => mode == BERMode::Cer,
+    };
+    let are_bytes = backwards.as_slice() == bytes && forwards.as_slice() == bytes;
+    Ok(has_len && are_bytes && whole.as_slice() == bytes)
 }
 
-fn rewritten_in_cer<T: BERDecodable + DEREncodable + DERExact>(
+// Whether these bytes are what the value that they encode is written as.
+fn is_encoding<T: BERDecodable + DEREncodable + DERExact>(
     alloc: Global,
     bytes: &[u8],
-) -> ASN1Result<Vec<u8>> {
+) -> ASN1Result<bool> {
+    one_der_encoding::<T>();
+    let value: T = decode_der(alloc, bytes)?;
+    is_written_as(alloc, &value, BERMode::Der, bytes)
+}
+
+// As `is_encoding`, in CER.
+fn is_cer_encoding<T: BERDecodable + DEREncodable + DERExact>(
+    alloc: Global,
+    bytes: &[u8],
+) -> ASN1Result<bool> {
     one_der_encoding::<T>();
     let value: T = decode_cer(alloc, bytes)?;
-    encode_cer(alloc, &value)
+    is_written_as(alloc, &value, BERMode::Cer, bytes)
 }
 
 fn rejects<T: Drop>(outcome: ASN1Result<T>) -> bool {
@@ -113,8 +146,8 @@ pub fn holds<T: BERDecodable + DEREncodable + DERExact>(
     claim: Claim,
 ) -> bool {
     match claim {
-        Claim::IsEncoding => gives(rewritten::<T>(alloc, bytes), bytes),
-        Claim::IsCerEncoding => gives(rewritten_in_cer::<T>(alloc, bytes), bytes),
+        Claim::IsEncoding => is_encoding::<T>(alloc, bytes).unwrap_or(false),
+        Claim::IsCerEncoding => is_cer_encoding::<T>(alloc, bytes).unwrap_or(false),
         Claim::IsNoEncoding => decode_der::<T>(alloc, bytes).is_err(),
         Claim::IsRejected(mode) => decode_ber_general::<T>(alloc, bytes, mode).is_err(),
         Claim::IsInvalid => rejects(decode_ber::<T>(alloc, bytes)),

@@ -5,6 +5,7 @@ use crate::checks::{Claim, becomes, bytes_of, holds, holds_or_says};
 use crate::keys::{is_content, is_raw};
 use crate::messages::{Part, is_part};
 use crate::parts::is_in_a_sequence;
+use crate::texts::Texts;
 use cms::{ContentInfo, EnvelopedData, SignedData};
 use ldap::LdapMessage;
 use pkcs8::{OneAsymmetricKey, PrivateKeyInfo};
@@ -42,6 +43,8 @@ pub enum Kind {
     Part(Part),
     /// Parts that are pairs.
     Pairs,
+    /// A text of each class, and a number.
+    Texts,
 }
 
 /// A kind, what is claimed, the row's name, and its bytes in hexadecimal.
@@ -79,6 +82,7 @@ fn is_so(alloc: Global, kind: Kind, bytes: &[u8], claim: Claim) -> bool {
         },
         Kind::Part(part) => is_part(alloc, part, bytes, claim),
         Kind::Pairs => is_in_a_sequence(alloc, bytes, claim),
+        Kind::Texts => holds::<Encoded<Texts>>(alloc, bytes, claim),
     }
 }
 

@@ -6,10 +6,12 @@
 //! | `checks` | no test: it holds what is checked of every type |
 //! | `keys` | private keys, and signed and enveloped contents, of `pkcs8` and `cms` |
 //! | `kinds` | no test: it holds what a row is, and by what its kind is checked |
+//! | `ldap_in_cer` | messages of `ldap` in CER |
 //! | `ldap_messages` | messages of `ldap` |
 //! | `messages` | types of `x509` and `snmp`, which are made of types |
 //! | `parts` | a SEQUENCE of parts that are pairs |
 //! | `snmp_messages` | messages of `snmp` |
+//! | `texts` | a type of texts, made for these tests |
 #![tactic(auto)]
 
 #[cfg(test)]
@@ -21,6 +23,8 @@ mod keys;
 #[cfg(test)]
 mod kinds;
 #[cfg(test)]
+mod ldap_in_cer;
+#[cfg(test)]
 mod ldap_messages;
 #[cfg(test)]
 mod messages;
@@ -28,3 +32,5 @@ mod messages;
 mod parts;
 #[cfg(test)]
 mod snmp_messages;
+#[cfg(test)]
+mod texts;

@@ -21,7 +21,7 @@ pub enum Part {
     Application,
 }
 
-static ROWS: [Row; 20] = [
+static ROWS: [Row; 24] = [
     (
         Kind::Part(Part::Algorithm),
         Claim::IsEncoding,
@@ -141,6 +141,30 @@ static ROWS: [Row; 20] = [
         Claim::IsNoEncoding,
         "no extension",
         "3000",
+    ),
+    (
+        Kind::Part(Part::Name),
+        Claim::IsCerEncoding,
+        "a name of one part in CER",
+        "30803180308006035504030c0161000000000000",
+    ),
+    (
+        Kind::Part(Part::Attribute),
+        Claim::IsCerEncoding,
+        "an attribute in CER",
+        "3080060355040331800c016100000000",
+    ),
+    (
+        Kind::Part(Part::Validity),
+        Claim::IsCerEncoding,
+        "a validity from a UTCTime to a GeneralizedTime in CER",
+        "3080170d3235303130313030303030305a180f32303530303130313030303030305a0000",
+    ),
+    (
+        Kind::Part(Part::Extensions),
+        Claim::IsCerEncoding,
+        "an extension in CER",
+        "308030800603551d130101ff0402300000000000",
     ),
 ];
 
