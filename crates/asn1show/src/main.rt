@@ -1,18 +1,19 @@
 //! `asn1show` lists the elements of ASN.1 bytes, a line an element.
 //!
-//! `arguments` has the options of the command line. `asn1show_lines` makes the lines.
+//! `options` has those of the command line. `asn1show_lines` makes the lines, and `program_io` has the standard streams.
 #![tactic(auto)]
 
-mod arguments;
+mod options;
 
-use arguments::{Options, options_of};
 use asn1show_walk::WalkError;
 use clap::Error;
 use clap::error::ErrorKind;
+use options::{Options, options_of};
+use program_io::{ProgramError, arguments, read_input};
 use std::fmt::Display;
-use std::io::{BufWriter, Read, Write};
+use std::fs;
+use std::io::{BufWriter, Write};
 use std::process::ExitCode;
-use std::{env, fs, io};
 
 // The status if the input is malformed.
 const MALFORMED: u8 = 1;
@@ -20,24 +21,8 @@ const MALFORMED: u8 = 1;
 // The status after a usage error.
 const USAGE: u8 = 2;
 
-// The status after an I/O error, or if memory ran out.
+// The status after an I/O error.
 const IO_ERROR: u8 = 3;
-
-fn status_of(error: &WalkError) -> u8 {
-    match error {
-        WalkError::Malformed { .. } => MALFORMED,
-        WalkError::Memory | WalkError::Output | WalkError::ClosedOutput => IO_ERROR,
-    }
-}
-
-fn read(rt: &HostRuntime, file: Option<&str>) -> io::Result<Vec<u8>> {
-    let Some(path) = file else {
-        let mut input = Vec::new(rt.alloc());
-        rt.stdin().read_to_end(&mut input)?;
-        return Ok(input);
-    };
-    fs::read(rt, path)
-}
 
 fn show(rt: &HostRuntime, options: &Options<'_>, input: &[u8]) -> Result<(), WalkError> {
     let Options {
@@ -53,57 +38,58 @@ fn show(rt: &HostRuntime, options: &Options<'_>, input: &[u8]) -> Result<(), Wal
     Ok(flushed?)
 }
 
-// Reports the error that ended the run.
-fn report_error<D: Display>(rt: &HostRuntime, options: &Options<'_>, why: &D) {
-    let name = options.file.unwrap_or("stdin");
+// Reports an error of the input that has this name.
+fn report<D: Display>(rt: &HostRuntime, name: &str, why: &D) {
     let _ = writeln!(rt.stderr(), "{name}: {why}");
 }
 
 // Lists an input that was read, and returns the status.
 fn list(rt: &HostRuntime, options: &Options<'_>, input: &[u8]) -> u8 {
-    match show(rt, options, input) {
-        Ok(()) => 0,
-        // Its reader has what it asked for, as `head` does.
-        Err(WalkError::ClosedOutput) => IO_ERROR,
-        Err(error) => {
-            report_error(rt, options, &error);
-            status_of(&error)
+    let Err(error) = show(rt, options, input) else {
+        return 0;
+    };
+    match error {
+        WalkError::Malformed { .. } => {
+            report(rt, options.file.unwrap_or("stdin"), &error);
+            MALFORMED
         }
+        WalkError::Memory => ProgramError::Memory.report(rt),
+        WalkError::Output => ProgramError::Output.report(rt),
+        WalkError::ClosedOutput => ProgramError::ClosedPipe.report(rt),
     }
 }
 
-// Reads and lists the input that the options name, and returns the status.
-fn run(rt: &HostRuntime, options: &Options<'_>) -> u8 {
-    match read(rt, options.file) {
+// Reads and lists a file, and returns the status.
+fn list_file(rt: &HostRuntime, options: &Options<'_>, path: &str) -> u8 {
+    match fs::read(rt, path) {
         Ok(input) => list(rt, options, input.as_slice()),
         Err(error) => {
-            report_error(rt, options, &error);
+            report(rt, path, &error);
             IO_ERROR
         }
     }
 }
 
-fn words_of(rt: &HostRuntime) -> io::Result<Vec<String>> {
-    let words = env::args(rt)?;
-    Ok(words.collect(rt.alloc())?)
+// Reads and lists standard input, and returns the status.
+fn list_stdin(rt: &HostRuntime, options: &Options<'_>) -> u8 {
+    match read_input(rt) {
+        Ok(input) => list(rt, options, input.as_slice()),
+        Err(error) => error.report(rt),
+    }
 }
 
-// Explains why there are no words of a command line.
-fn explain_words(rt: &HostRuntime, error: &io::Error) -> u8 {
-    let _ = match error.kind() {
-        io::ErrorKind::InvalidData => {
-            writeln!(rt.stderr(), "asn1show: an argument isn't text in UTF-8")
-        }
-        _ => writeln!(rt.stderr(), "asn1show: {error}"),
-    };
-    IO_ERROR
+// Reads and lists the input that the options name, and returns the status.
+fn run(rt: &HostRuntime, options: &Options<'_>) -> u8 {
+    match options.file {
+        Some(path) => list_file(rt, options, path),
+        None => list_stdin(rt, options),
+    }
 }
 
 // Explains why there are no options: a usage error, a request for help, or out of memory.
 fn explain_usage(rt: &HostRuntime, error: &Error) -> u8 {
     if error.kind() == ErrorKind::OutOfMemory {
-        let _ = writeln!(rt.stderr(), "asn1show: out of memory");
-        return IO_ERROR;
+        return ProgramError::Memory.report(rt);
     }
     if error.print(rt).is_err() {
         return IO_ERROR;
@@ -112,9 +98,9 @@ fn explain_usage(rt: &HostRuntime, error: &Error) -> u8 {
 }
 
 fn main(rt: HostRuntime) -> ExitCode {
-    let words = match words_of(&rt) {
+    let words = match arguments(&rt) {
         Ok(words) => words,
-        Err(error) => return ExitCode::from(explain_words(&rt, &error)),
+        Err(error) => return ExitCode::from(error.report(&rt)),
     };
     let status = match options_of(rt.alloc(), words.as_slice()) {
         Ok(options) => run(&rt, &options),

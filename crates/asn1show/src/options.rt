@@ -1,4 +1,4 @@
-//! The arguments.
+//! The options of the command line.
 
 use asn1show_lines::InputFormat;
 use clap::{Arg, ArgAction, ArgMatches, Command, Error};
