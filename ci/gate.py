@@ -17,7 +17,7 @@ SCRIPTS = {
     "words": [["ci/words.sh"]],
     "guide": [["ci/guide.sh"]],
     "lifetimes": [["ci/lifetimes.sh"]],
-    "memory": [["ci/tool_without_memory.sh"], ["ci/refused_memory.sh"]],
+    "memory": [["ci/tool_without_memory.sh"], ["ci/program_ends.sh"], ["ci/refused_memory.sh"]],
 }
 # What one run of `rt ci` does.
 PROVED = ["proofs", "mutants", "tests", "programs"]
