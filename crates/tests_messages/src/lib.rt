@@ -10,6 +10,7 @@
 //! | `ldap_messages` | messages of `ldap` |
 //! | `messages` | types of `x509` and `snmp`, which are made of types |
 //! | `parts` | a SEQUENCE of parts that are pairs |
+//! | `prepended` | bit strings and numbers that are prepended to a buffer |
 //! | `snmp_messages` | messages of `snmp` |
 //! | `texts` | a type of texts, made for these tests |
 #![tactic(auto)]
@@ -30,6 +31,8 @@ mod ldap_messages;
 mod messages;
 #[cfg(test)]
 mod parts;
+#[cfg(test)]
+mod prepended;
 #[cfg(test)]
 mod snmp_messages;
 #[cfg(test)]
