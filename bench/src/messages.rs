@@ -19,9 +19,12 @@ const TRUSTED: &str = "/etc/ssl/certs/ca-certificates.crt";
 
 const COUNT: usize = 12;
 
+// How many times they are written, once they are read: so a read counts little.
+const TIMES: u64 = 100;
+
 pub fn cases() -> Vec<Case> {
     match trusted() {
-        Some(bytes) => vec![read(bytes), rewrite(bytes)],
+        Some(bytes) => vec![read(bytes), rewrite(bytes), write(bytes)],
         None => vec![],
     }
 }
@@ -46,6 +49,21 @@ fn rewrite(bytes: &'static [u8]) -> Case {
         .with(Upstream, move || {
             read_list(bytes).map_or(REFUSED, |certificates| {
                 black_box(write_list(&certificates)).len() as u64
+            })
+        })
+}
+
+fn write(bytes: &'static [u8]) -> Case {
+    Case::new("12 certificates written", 2)
+        .by_parts(COUNT * TIMES as usize)
+        .with(Port, move || {
+            port::write_certificates(black_box(bytes), black_box(TIMES))
+        })
+        .with(Upstream, move || {
+            read_list(bytes).map_or(REFUSED, |certificates| {
+                (0..black_box(TIMES))
+                    .map(|_| black_box(write_list(black_box(&certificates))).len() as u64)
+                    .sum()
             })
         })
 }

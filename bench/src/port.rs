@@ -41,6 +41,7 @@ mod linked {
         pub fn yasna_write_bmp(bytes: *const u8, length: usize) -> u64;
         pub fn yasna_read_certificates(bytes: *const u8, length: usize) -> u64;
         pub fn yasna_rewrite_certificates(bytes: *const u8, length: usize) -> u64;
+        pub fn yasna_write_certificates(bytes: *const u8, length: usize, times: u64) -> u64;
         pub fn yasna_read_raw(bytes: *const u8, length: usize, count: usize, der: bool) -> u64;
         pub fn yasna_parse_utc_times(texts: *const u8, length: usize) -> u64;
         pub fn yasna_parse_generalized_times(texts: *const u8, length: usize) -> u64;
@@ -199,6 +200,10 @@ pub fn read_certificates(bytes: &[u8]) -> u64 {
 
 pub fn rewrite_certificates(bytes: &[u8]) -> u64 {
     unsafe { linked::yasna_rewrite_certificates(bytes.as_ptr(), bytes.len()) }
+}
+
+pub fn write_certificates(bytes: &[u8], times: u64) -> u64 {
+    unsafe { linked::yasna_write_certificates(bytes.as_ptr(), bytes.len(), times) }
 }
 
 pub fn ten_explicit(bytes: &[u8]) -> u64 {
