@@ -89,22 +89,26 @@ impl Notation for LdapMessage {
         )
     }
 
-    fn prepend(value: &LdapMessage, under: Option<Tag>, out: &mut PrependBuffer) -> ASN1Result<()> {
+    fn prepend(
+        message: &LdapMessage,
+        under: Option<Tag>,
+        out: &mut PrependBuffer,
+    ) -> ASN1Result<()> {
         Sequence::<Parts>::prepend_fields(
             (
-                &value.message_id,
-                (&value.protocol_op, (&value.controls, ())),
+                &message.message_id,
+                (&message.protocol_op, (&message.controls, ())),
             ),
             under,
             out,
         )
     }
 
-    fn encoded_len(value: &LdapMessage, under: Option<Tag>, mode: BERMode) -> Option<usize> {
+    fn encoded_len(message: &LdapMessage, under: Option<Tag>, mode: BERMode) -> Option<usize> {
         Sequence::<Parts>::fields_len(
             (
-                &value.message_id,
-                (&value.protocol_op, (&value.controls, ())),
+                &message.message_id,
+                (&message.protocol_op, (&message.controls, ())),
             ),
             under,
             mode,

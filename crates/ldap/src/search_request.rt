@@ -145,22 +145,25 @@ impl Notation for SearchRequest {
     }
 
     fn prepend(
-        value: &SearchRequest,
+        request: &SearchRequest,
         under: Option<Tag>,
         out: &mut PrependBuffer,
     ) -> ASN1Result<()> {
         prepend_tagged_fields::<Application<3>, Parts, _>(
             (
-                &value.base_object,
+                &request.base_object,
                 (
-                    &value.scope,
+                    &request.scope,
                     (
-                        &value.deref_aliases,
+                        &request.deref_aliases,
                         (
-                            &value.size_limit,
+                            &request.size_limit,
                             (
-                                &value.time_limit,
-                                (&value.types_only, (&value.filter, (&value.attributes, ()))),
+                                &request.time_limit,
+                                (
+                                    &request.types_only,
+                                    (&request.filter, (&request.attributes, ())),
+                                ),
                             ),
                         ),
                     ),
@@ -171,19 +174,22 @@ impl Notation for SearchRequest {
         )
     }
 
-    fn encoded_len(value: &SearchRequest, under: Option<Tag>, mode: BERMode) -> Option<usize> {
+    fn encoded_len(request: &SearchRequest, under: Option<Tag>, mode: BERMode) -> Option<usize> {
         tagged_fields_len::<Application<3>, Parts, _>(
             (
-                &value.base_object,
+                &request.base_object,
                 (
-                    &value.scope,
+                    &request.scope,
                     (
-                        &value.deref_aliases,
+                        &request.deref_aliases,
                         (
-                            &value.size_limit,
+                            &request.size_limit,
                             (
-                                &value.time_limit,
-                                (&value.types_only, (&value.filter, (&value.attributes, ()))),
+                                &request.time_limit,
+                                (
+                                    &request.types_only,
+                                    (&request.filter, (&request.attributes, ())),
+                                ),
                             ),
                         ),
                     ),

@@ -117,19 +117,16 @@ impl Notation for OneAsymmetricKey {
     }
 
     fn prepend(
-        value: &OneAsymmetricKey,
+        key: &OneAsymmetricKey,
         under: Option<Tag>,
         out: &mut PrependBuffer,
     ) -> ASN1Result<()> {
         Sequence::<Parts>::prepend_fields(
             (
-                &value.version,
+                &key.version,
                 (
-                    &value.private_key_algorithm,
-                    (
-                        &value.private_key,
-                        (&value.attributes, (&value.public_key, ())),
-                    ),
+                    &key.private_key_algorithm,
+                    (&key.private_key, (&key.attributes, (&key.public_key, ()))),
                 ),
             ),
             under,
@@ -137,16 +134,13 @@ impl Notation for OneAsymmetricKey {
         )
     }
 
-    fn encoded_len(value: &OneAsymmetricKey, under: Option<Tag>, mode: BERMode) -> Option<usize> {
+    fn encoded_len(key: &OneAsymmetricKey, under: Option<Tag>, mode: BERMode) -> Option<usize> {
         Sequence::<Parts>::fields_len(
             (
-                &value.version,
+                &key.version,
                 (
-                    &value.private_key_algorithm,
-                    (
-                        &value.private_key,
-                        (&value.attributes, (&value.public_key, ())),
-                    ),
+                    &key.private_key_algorithm,
+                    (&key.private_key, (&key.attributes, (&key.public_key, ()))),
                 ),
             ),
             under,

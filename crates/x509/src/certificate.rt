@@ -81,22 +81,32 @@ impl Notation for Certificate {
         )
     }
 
-    fn prepend(value: &Certificate, under: Option<Tag>, out: &mut PrependBuffer) -> ASN1Result<()> {
+    fn prepend(
+        certificate: &Certificate,
+        under: Option<Tag>,
+        out: &mut PrependBuffer,
+    ) -> ASN1Result<()> {
         Sequence::<Parts>::prepend_fields(
             (
-                &value.tbs_certificate,
-                (&value.signature_algorithm, (&value.signature_value, ())),
+                &certificate.tbs_certificate,
+                (
+                    &certificate.signature_algorithm,
+                    (&certificate.signature_value, ()),
+                ),
             ),
             under,
             out,
         )
     }
 
-    fn encoded_len(value: &Certificate, under: Option<Tag>, mode: BERMode) -> Option<usize> {
+    fn encoded_len(certificate: &Certificate, under: Option<Tag>, mode: BERMode) -> Option<usize> {
         Sequence::<Parts>::fields_len(
             (
-                &value.tbs_certificate,
-                (&value.signature_algorithm, (&value.signature_value, ())),
+                &certificate.tbs_certificate,
+                (
+                    &certificate.signature_algorithm,
+                    (&certificate.signature_value, ()),
+                ),
             ),
             under,
             mode,
