@@ -72,6 +72,7 @@ ANCHORS = {
     "read_default": "read_default",
     "read_sequence": "read_sequence",
     "*_sequence_of": "read_sequence_of",
+    "collect_rest": "read_sequence_of",
     "read_set": "read_set",
     "*_set_of": "read_set_of",
     "read_tagged": "read_tagged",
