@@ -1,1 +1,3 @@
 pub mod Numbering
+pub mod Readings
+pub mod BitEnds

@@ -1,2 +1,5 @@
 pub mod Named
 pub mod Statuses
+pub mod PlainBits
+pub mod NamedBits
+pub mod LeastBits

@@ -3,20 +3,34 @@
 //! | Module | Holds |
 //! |---|---|
 //! | `named` | ENUMERATED as an enum, extensible too |
+//! | `plain_bits` | BIT STRING whose unused bits have no meaning |
+//! | `named_bits`, `least_bits` | BIT STRING with named bits, written as it is or without zero bits at its end |
 //!
 //! Each of these has an example, which is a type of a small module:
 //!
 //! | Module | Example of |
 //! |---|---|
 //! | `statuses`, `reply` | `named` |
+//! | `key_info` | `plain_bits` |
+//! | `usage` | `least_bits` |
 #![tactic(auto)]
 
+mod key_info;
+mod least_bits;
 mod named;
+mod named_bits;
+mod plain_bits;
 mod reply;
 mod statuses;
 #[cfg(test)]
 mod tests;
+mod usage;
 
+pub use key_info::KeyInfo;
+pub use least_bits::LeastBits;
 pub use named::{Named, Numbered};
+pub use named_bits::NamedBits;
+pub use plain_bits::PlainBits;
 pub use reply::Reply;
 pub use statuses::{ResponseStatus, ResultCode};
+pub use usage::Usage;

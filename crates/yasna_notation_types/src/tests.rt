@@ -1,6 +1,6 @@
 //! What the examples read and write. Encodings in DER are those of `openssl asn1parse -genconf`, and those of sets in BER are of `pyasn1`.
 
-use crate::Reply;
+use crate::{KeyInfo, Reply, Usage};
 use std::alloc::Global;
 use std::process::Abort;
 use yasna::{
@@ -12,7 +12,9 @@ use yasna_notation::Encoded;
 /// The type of a row.
 #[derive(Clone, Copy)]
 enum Kind {
+    KeyInfo,
     Reply,
+    Usage,
 }
 
 /// What is so of a row's octets.
@@ -29,7 +31,7 @@ enum Claim {
 /// A type, what is claimed, the row's name, and its octets.
 type Row = (Kind, Claim, &'static str, &'static [u8]);
 
-static ROWS: [Row; 6] = [
+static ROWS: [Row; 18] = [
     (
         Kind::Reply,
         Claim::IsEncoding,
@@ -65,6 +67,83 @@ static ROWS: [Row; 6] = [
         Claim::IsRejected,
         "no octet",
         &[0x30, 5, 10, 0, 0x80, 1, 51],
+    ),
+    (
+        Kind::KeyInfo,
+        Claim::IsEncoding,
+        "bits",
+        &[0x30, 8, 3, 3, 0, 0xe0, 0xff, 2, 1, 1],
+    ),
+    (
+        Kind::KeyInfo,
+        Claim::IsEncoding,
+        "unused bits",
+        &[0x30, 7, 3, 2, 5, 0xe0, 2, 1, 1],
+    ),
+    (
+        Kind::KeyInfo,
+        Claim::Becomes(&[0x30, 7, 3, 2, 5, 0xe0, 2, 1, 1]),
+        "unused bits that are ones",
+        &[0x30, 7, 3, 2, 5, 0xff, 2, 1, 1],
+    ),
+    (
+        Kind::KeyInfo,
+        Claim::Becomes(&[
+            0x30, 12, 3, 7, 4, 0x0a, 0x3b, 0x5f, 0x29, 0x1c, 0xd0, 2, 1, 1,
+        ]),
+        "the segments of X.690, 8.6.4.2",
+        &[
+            0x30, 0x80, 0x23, 0x80, 3, 3, 0, 0x0a, 0x3b, 3, 5, 4, 0x5f, 0x29, 0x1c, 0xd0, 0, 0, 2,
+            1, 1, 0, 0,
+        ],
+    ),
+    (
+        Kind::KeyInfo,
+        Claim::IsRejected,
+        "eight unused bits",
+        &[0x30, 7, 3, 2, 8, 0, 2, 1, 1],
+    ),
+    (
+        Kind::Usage,
+        Claim::IsEncoding,
+        "a bit",
+        &[0x30, 7, 2, 1, 1, 0x81, 2, 6, 0x40],
+    ),
+    (
+        Kind::Usage,
+        Claim::IsEncoding,
+        "two",
+        &[0x30, 8, 2, 1, 1, 0x81, 3, 7, 0x80, 0x80],
+    ),
+    (
+        Kind::Usage,
+        Claim::IsEncoding,
+        "no bit",
+        &[0x30, 6, 2, 1, 1, 0x81, 1, 0],
+    ),
+    (
+        Kind::Usage,
+        Claim::Becomes(&[0x30, 7, 2, 1, 1, 0x81, 2, 6, 0x40]),
+        "zeros at the end",
+        &[0x30, 8, 2, 1, 1, 0x81, 3, 0, 0x40, 0],
+    ),
+    (
+        Kind::Usage,
+        Claim::Becomes(&[0x30, 7, 2, 1, 1, 0x81, 2, 6, 0x40]),
+        "a zero at the end",
+        &[0x30, 7, 2, 1, 1, 0x81, 2, 5, 0x40],
+    ),
+    (
+        Kind::Usage,
+        Claim::Becomes(&[0x30, 6, 2, 1, 1, 0x81, 1, 0]),
+        "zeros only",
+        &[0x30, 8, 2, 1, 1, 0x81, 3, 0, 0, 0],
+    ),
+    (
+        Kind::Usage,
+        Claim::IsRejected,
+        "an octet too few",
+        &[0x30, 5, 2, 1, 1, 0x81, 0],
     ),
 ];
 
@@ -126,7 +205,9 @@ fn holds_or_becomes<T: BERDecodable + DEREncodable + DERExact + DERCanonical>(
 
 fn is_so(alloc: Global, kind: Kind, bytes: &[u8], claim: Claim) -> bool {
     match kind {
+        Kind::KeyInfo => holds_or_becomes::<Encoded<KeyInfo>>(alloc, bytes, claim),
         Kind::Reply => holds_or_becomes::<Encoded<Reply>>(alloc, bytes, claim),
+        Kind::Usage => holds_or_becomes::<Encoded<Usage>>(alloc, bytes, claim),
     }
 }
 
