@@ -1,3 +1,4 @@
 pub mod Numbering
+pub mod Opening
 pub mod Readings
 pub mod BitEnds

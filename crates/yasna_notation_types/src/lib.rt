@@ -5,6 +5,7 @@
 //! | `named` | ENUMERATED as an enum, extensible too |
 //! | `plain_bits` | BIT STRING whose unused bits have no meaning |
 //! | `named_bits`, `least_bits` | BIT STRING with named bits, written as it is or without zero bits at its end |
+//! | `open_choice` | an extensible CHOICE |
 //!
 //! Each of these has an example, which is a type of a small module:
 //!
@@ -13,14 +14,17 @@
 //! | `statuses`, `reply` | `named` |
 //! | `key_info` | `plain_bits` |
 //! | `usage` | `least_bits` |
+//! | `shape` | `open_choice` |
 #![tactic(auto)]
 
 mod key_info;
 mod least_bits;
 mod named;
 mod named_bits;
+mod open_choice;
 mod plain_bits;
 mod reply;
+mod shape;
 mod statuses;
 #[cfg(test)]
 mod tests;
@@ -30,7 +34,9 @@ pub use key_info::KeyInfo;
 pub use least_bits::LeastBits;
 pub use named::{Named, Numbered};
 pub use named_bits::NamedBits;
+pub use open_choice::OpenChoice;
 pub use plain_bits::PlainBits;
 pub use reply::Reply;
+pub use shape::Shape;
 pub use statuses::{ResponseStatus, ResultCode};
 pub use usage::Usage;

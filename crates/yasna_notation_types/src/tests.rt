@@ -1,6 +1,6 @@
 //! What the examples read and write. Encodings in DER are those of `openssl asn1parse -genconf`, and those of sets in BER are of `pyasn1`.
 
-use crate::{KeyInfo, Reply, Usage};
+use crate::{KeyInfo, Reply, Shape, Usage};
 use std::alloc::Global;
 use std::process::Abort;
 use yasna::{
@@ -14,6 +14,7 @@ use yasna_notation::Encoded;
 enum Kind {
     KeyInfo,
     Reply,
+    Shape,
     Usage,
 }
 
@@ -31,7 +32,7 @@ enum Claim {
 /// A type, what is claimed, the row's name, and its octets.
 type Row = (Kind, Claim, &'static str, &'static [u8]);
 
-static ROWS: [Row; 18] = [
+static ROWS: [Row; 23] = [
     (
         Kind::Reply,
         Claim::IsEncoding,
@@ -145,6 +146,26 @@ static ROWS: [Row; 18] = [
         "an octet too few",
         &[0x30, 5, 2, 1, 1, 0x81, 0],
     ),
+    (Kind::Shape, Claim::IsEncoding, "a number", &[2, 1, 5]),
+    (Kind::Shape, Claim::IsEncoding, "a flag", &[1, 1, 0xff]),
+    (
+        Kind::Shape,
+        Claim::IsEncoding,
+        "an unknown element",
+        &[12, 1, 0x61],
+    ),
+    (
+        Kind::Shape,
+        Claim::IsRejected,
+        "a flag of two octets",
+        &[1, 2, 0xff, 0xff],
+    ),
+    (
+        Kind::Shape,
+        Claim::IsRejected,
+        "an unknown element, cut off",
+        &[12, 2, 0x61],
+    ),
 ];
 
 // What is read in DER, written again.
@@ -207,6 +228,7 @@ fn is_so(alloc: Global, kind: Kind, bytes: &[u8], claim: Claim) -> bool {
     match kind {
         Kind::KeyInfo => holds_or_becomes::<Encoded<KeyInfo>>(alloc, bytes, claim),
         Kind::Reply => holds_or_becomes::<Encoded<Reply>>(alloc, bytes, claim),
+        Kind::Shape => holds::<Encoded<Shape>>(alloc, bytes, claim),
         Kind::Usage => holds_or_becomes::<Encoded<Usage>>(alloc, bytes, claim),
     }
 }
