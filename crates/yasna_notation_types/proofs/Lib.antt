@@ -2,3 +2,5 @@ pub mod Numbering
 pub mod Opening
 pub mod Readings
 pub mod BitEnds
+pub mod SetReading
+pub mod Sets

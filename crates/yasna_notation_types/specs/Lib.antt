@@ -4,3 +4,6 @@ pub mod OpenChoice
 pub mod PlainBits
 pub mod NamedBits
 pub mod LeastBits
+pub mod SetParts
+pub mod SetReading
+pub mod Elements

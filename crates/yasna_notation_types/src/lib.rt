@@ -6,6 +6,8 @@
 //! | `plain_bits` | BIT STRING whose unused bits have no meaning |
 //! | `named_bits`, `least_bits` | BIT STRING with named bits, written as it is or without zero bits at its end |
 //! | `open_choice` | an extensible CHOICE |
+//! | `elements` | types each of whose encodings is one element |
+//! | `set_parts` | SET of parts |
 //!
 //! Each of these has an example, which is a type of a small module:
 //!
@@ -15,28 +17,35 @@
 //! | `key_info` | `plain_bits` |
 //! | `usage` | `least_bits` |
 //! | `shape` | `open_choice` |
+//! | `person` | `set_parts` |
 #![tactic(auto)]
 
+mod elements;
 mod key_info;
 mod least_bits;
 mod named;
 mod named_bits;
 mod open_choice;
+mod person;
 mod plain_bits;
 mod reply;
+mod set_parts;
 mod shape;
 mod statuses;
 #[cfg(test)]
 mod tests;
 mod usage;
 
+pub use elements::{ElementParts, Elements, OneElement};
 pub use key_info::KeyInfo;
 pub use least_bits::LeastBits;
 pub use named::{Named, Numbered};
 pub use named_bits::NamedBits;
 pub use open_choice::OpenChoice;
+pub use person::Person;
 pub use plain_bits::PlainBits;
 pub use reply::Reply;
+pub use set_parts::{Set, SetParts};
 pub use shape::Shape;
 pub use statuses::{ResponseStatus, ResultCode};
 pub use usage::Usage;

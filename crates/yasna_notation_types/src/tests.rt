@@ -1,6 +1,6 @@
 //! What the examples read and write. Encodings in DER are those of `openssl asn1parse -genconf`, and those of sets in BER are of `pyasn1`.
 
-use crate::{KeyInfo, Reply, Shape, Usage};
+use crate::{KeyInfo, Person, Reply, Shape, Usage};
 use std::alloc::Global;
 use std::process::Abort;
 use yasna::{
@@ -13,6 +13,7 @@ use yasna_notation::Encoded;
 #[derive(Clone, Copy)]
 enum Kind {
     KeyInfo,
+    Person,
     Reply,
     Shape,
     Usage,
@@ -32,7 +33,7 @@ enum Claim {
 /// A type, what is claimed, the row's name, and its octets.
 type Row = (Kind, Claim, &'static str, &'static [u8]);
 
-static ROWS: [Row; 23] = [
+static ROWS: [Row; 29] = [
     (
         Kind::Reply,
         Claim::IsEncoding,
@@ -166,6 +167,42 @@ static ROWS: [Row; 23] = [
         "an unknown element, cut off",
         &[12, 2, 0x61],
     ),
+    (
+        Kind::Person,
+        Claim::IsEncoding,
+        "all parts",
+        &[0x31, 9, 1, 1, 0xff, 0x80, 1, 0, 0x81, 1, 42],
+    ),
+    (
+        Kind::Person,
+        Claim::IsEncoding,
+        "one omitted",
+        &[0x31, 6, 1, 1, 0xff, 0x81, 1, 42],
+    ),
+    (
+        Kind::Person,
+        Claim::Becomes(&[0x31, 9, 1, 1, 0xff, 0x80, 1, 0, 0x81, 1, 42]),
+        "the module's order",
+        &[0x31, 0x80, 0x81, 1, 42, 1, 1, 1, 0x80, 1, 0, 0, 0],
+    ),
+    (
+        Kind::Person,
+        Claim::IsRejected,
+        "one missing",
+        &[0x31, 3, 1, 1, 0xff],
+    ),
+    (
+        Kind::Person,
+        Claim::IsRejected,
+        "one twice",
+        &[0x31, 9, 1, 1, 0xff, 1, 1, 0xff, 0x81, 1, 42],
+    ),
+    (
+        Kind::Person,
+        Claim::IsRejected,
+        "an element more",
+        &[0x31, 9, 1, 1, 0xff, 2, 1, 5, 0x81, 1, 42],
+    ),
 ];
 
 // What is read in DER, written again.
@@ -227,6 +264,7 @@ fn holds_or_becomes<T: BERDecodable + DEREncodable + DERExact + DERCanonical>(
 fn is_so(alloc: Global, kind: Kind, bytes: &[u8], claim: Claim) -> bool {
     match kind {
         Kind::KeyInfo => holds_or_becomes::<Encoded<KeyInfo>>(alloc, bytes, claim),
+        Kind::Person => holds_or_becomes::<Encoded<Person>>(alloc, bytes, claim),
         Kind::Reply => holds_or_becomes::<Encoded<Reply>>(alloc, bytes, claim),
         Kind::Shape => holds::<Encoded<Shape>>(alloc, bytes, claim),
         Kind::Usage => holds_or_becomes::<Encoded<Usage>>(alloc, bytes, claim),

@@ -1,0 +1,433 @@
+-- What reading the parts of a SET does: each is chosen by its tag from the elements that were found.
+use Rattle.std.proofs.Common.{◌≡◌, ◌∷◌, ◌++◌, [], ◌<◌, ◌≤◌, ℕ, zero, suc, List, Bool, true, Option, Some, None, Result, Ok, Err, inl, inr, length, refl, sym, ap, ap₂, subst, ◌∙◌, append-nil, length-append, take, drop, arith}
+use Rattle.std.specs.Borrow.{MutBor}
+use Rattle.std.specs.Fn.{Once, FnOnceReturnsAtMut}
+use Rattle.std.specs.List.{AllByRecursion, Contains}
+use Rattle.std.specs.Prelude.{slice_index_or}
+use Rattle.yasna_base.specs.declared.error.ASN1Error.{ASN1Error}
+use Rattle.yasna_base.specs.declared.error.ASN1ErrorKind.TheVariants.{OutOfMemory}
+use Rattle.yasna_base.specs.declared.mode.BERMode.{BERMode}
+use Rattle.yasna_base.specs.declared.tag.Tag.{Tag}
+use Rattle.yasna_base.specs.Beginnings.{share_none}
+use Rattle.yasna_base.specs.Coding.{IsCoding}
+use Rattle.yasna_base.specs.Error.{kind_of}
+use Rattle.yasna_base.specs.Exact.{Fitting}
+use Rattle.yasna_base.specs.Grammar.{Grammar, Members, Encoding}
+use Rattle.yasna_base.specs.Identifier.{BeginsWithTag}
+use Rattle.yasna_base.specs.Raw.{RawValue}
+use Rattle.yasna_base.proofs.Identifier.{begins_once}
+use Rattle.yasna_base.proofs.SetWriting.{raw_begins}
+use Rattle.yasna_reader.specs.declared.callback.Outcome.{Outcome}
+use Rattle.yasna_reader.specs.declared.callback.Outcome.TheVariants.{Matched, NoMatch, Failed}
+use Rattle.yasna_reader.specs.declared.set.SetElement.{SetElement}
+use Rattle.yasna_reader.specs.Callback.{ErrorCause, sticky, before, own, Hands, returned_of, advanced_as}
+use Rattle.yasna_reader.specs.Decodes.{Explains, StickyExplains, ParsedValue, Decodes}
+use Rattle.yasna_reader.specs.Parse.{ended, unless_failed}
+use Rattle.yasna_reader.specs.Sequence.{place_in}
+use Rattle.yasna_reader.specs.Set.{SetReading, all_taken}
+use Rattle.yasna_reader.specs.SetChoice.{IsAmong}
+use Rattle.yasna_reader.specs.SetLaws.{IsElementOf}
+use Rattle.yasna_reader.specs.SetOptional.{ReadsSingle, ReadsTaken, ReadsNone, ReadsChosen, ReadsChosenBy, failing_on_err, some}
+use Rattle.yasna_reader.specs.State.{Reading, IsFresh, Does}
+use Rattle.yasna_reader.proofs.Sequences.{place_after}
+use Rattle.yasna_reader.proofs.Tuples.{IsDecoder}
+use Rattle.yasna_notation.specs.Notation.{IsNotation}
+use Rattle.yasna_notation.proofs.Contents.{paired}
+use Rattle.yasna.proofs.Closures.{by_run}
+use Rattle.yasna_notation_types.specs.SetParts.{Pieced, PickOf, OptionPick, PickMaybe, AreSetParts, AreElements, goes_before, all_others, pick_once, others_without, tagged}
+use Rattle.yasna_notation_types.specs.SetReading.{bytes_of, AreFound, set_result, ReadsPicks, ReadsSetParts}
+
+-- an element was read to its end
+record ReadWhole {A : Type 0} (B : A → List ℕ → Type 0) (z : Reading) (v : A) (w : Reading) : Type 0 where
+  encodes : B v z.left
+  state : w ≡ record z { left = [] }
+
+-- an element wasn't read, or not to its end
+record NotWhole (S : List ℕ → Type 0) (z : Reading) (e : ASN1Error) (w : Reading) : Type 0 where
+  is_sticky : w.failed ≡ Some e
+  none : (kind_of e ≡ OutOfMemory → ⊥) → S z.left → ⊥
+
+abbrev SingleIs : {A : Type 0} → Grammar A → Members → Reading → Result A ASN1Error → Reading → Type 0
+SingleIs B S z (Ok v) w = ReadWhole (B z.mode z.levels) z v w
+SingleIs B S z (Err e) w = NotWhole (S z.mode z.levels) z e w
+
+module _ {A : Type 0} {E : A → A → Type 0} {B : Grammar A} {S : Members} (laws : IsCoding E B S) (may_allocate : Bool) (N : Does A)
+    (decoder : IsDecoder may_allocate B S N) (z : Reading) (fresh : IsFresh z) where
+  -- what a sticky error of reading the element says
+  error_explains : (x : Result A ASN1Error) (m : Reading) → Decodes may_allocate B S z x m → (e : ASN1Error) → ErrorCause z.left x m e → Explains may_allocate (S z.mode z.levels) z.left e
+  error_explains (Ok v) m h e (sticky k) = let u : m.failed ≡ None = ap (λ (y : Reading). y.failed) h.left ∙ fresh.0 in absurd (cc)
+  error_explains (Ok v) m h e (before k b f) =
+      absurd (omega (arith, b, ap length h.joined, length-append h.prefix h.rest, ap (λ (y : Reading). length y.left) h.left))
+  error_explains (Ok v) m h e (own k b f p) = absurd (cc)
+  error_explains (Err d) m h e (sticky k) = subst (λ y. StickyExplains may_allocate (S z.mode z.levels) z.left y) k h.0.failed
+  error_explains (Err d) m h e (before k b f) = absurd (omega (arith, b, h.0.further))
+  error_explains (Err d) m h e (own k b f p) = let g : d ≡ e = cc in subst (λ y. Explains may_allocate (S z.mode z.levels) z.left y) g h.0.explains
+
+  no_prefix : (e : ASN1Error) → Explains may_allocate (S z.mode z.levels) z.left e → (kind_of e ≡ OutOfMemory → ⊥) → S z.mode z.levels z.left → ⊥
+  no_prefix e t q s = t.none q z.left [] (sym (append-nil z.left)) s
+
+  -- if something is left, the whole element is no encoding
+  more_left : (prefix rest : List ℕ) (x : ℕ) (xs : List ℕ) → z.left ≡ prefix ++ rest → rest ≡ x ∷ xs → S z.mode z.levels prefix → S z.mode z.levels z.left → ⊥
+  more_left prefix rest x xs j e s t =
+      let same = laws.prefix_free z.mode z.levels z.levels prefix z.left rest [] s t (sym j ∙ sym (append-nil z.left)) in
+      omega (arith, ap length same, ap length j, length-append prefix rest, ap length e)
+
+  matched : (v : A) (o w y : Reading) (q : Result A ASN1Error) → ParsedValue (B z.mode z.levels) z v o → y ≡ advanced_as z o → (l : List ℕ) → y.left ≡ l →
+      q ≡ ended (Ok v) l → w ≡ failing_on_err q y → SingleIs B S z q w
+  matched v o w y q h at l is e state = by_left l place is e
+    where
+      place : y.left ≡ h.rest
+      place = ap (λ (k : Reading). k.left) at ∙ ap (λ (k : Reading). place_in z.left k.left) h.left ∙ ap (λ k. place_in k h.rest) h.joined ∙ place_after h.prefix h.rest
+
+      among : S z.mode z.levels h.prefix
+      among = laws.meaning.among z.mode z.levels v h.prefix h.member
+
+      by_left : (l : List ℕ) → y.left ≡ h.rest → y.left ≡ l → q ≡ ended (Ok v) l → SingleIs B S z q w
+      by_left [] p i f =
+          let whole : h.prefix ≡ z.left = sym (append-nil h.prefix) ∙ ap (λ k. h.prefix ++ k) (sym i ∙ p) ∙ sym h.joined in
+          let y_is : y ≡ record z { left = [] } =
+          at ∙ ap {A = List ℕ} {B = Reading} (λ k. record z { left = k; tag = None; failed = None }) (sym (ap (λ (k : Reading). k.left) at) ∙ i)
+          ∙ ap (λ (t : Option Tag). record z { left = []; tag = t; failed = None }) (sym fresh.1)
+          ∙ ap (λ (k : Option ASN1Error). record z { left = []; failed = k }) (sym fresh.0) in
+          subst (λ k. SingleIs B S z k w) (sym f)
+          (record { encodes = subst (λ b. B z.mode z.levels v b) whole h.member; state = subst (λ k. w ≡ failing_on_err k y) f state ∙ y_is })
+      by_left (x ∷ xs) p i f =
+          subst (λ k. SingleIs B S z k w) (sym f)
+          (record {
+            is_sticky = ap (λ (k : Reading). k.failed) (subst (λ k. w ≡ failing_on_err k y) f state);
+            none = λ q. more_left h.prefix h.rest x xs h.joined (sym p ∙ i) among;
+          })
+
+  came : (o : Outcome A) (y w : Reading) (q : Result A ASN1Error) → Hands N z o y → q ≡ ended (returned_of o) y.left → w ≡ failing_on_err q y → SingleIs B S z q w
+  came (Matched v) y w q h e state =
+      let d = subst (λ x. Decodes may_allocate B S z x h.left) h.comes.2 (decoder.decodes z h.own h.left fresh h.obeys) in
+      matched v h.left w y q d h.comes.3 y.left refl e state
+  came (NoMatch d) y w q h e state =
+      let t = subst (λ x. Decodes may_allocate B S z x h.left) h.comes.3 (decoder.decodes z h.own h.left fresh h.obeys) in
+      subst (λ k. SingleIs B S z k w) (sym e)
+      (record { is_sticky = ap (λ (k : Reading). k.failed) (subst (λ k. w ≡ failing_on_err k y) e state); none = no_prefix d t.0.explains })
+  came (Failed d) y w q h e state =
+      let t = error_explains h.own h.left (decoder.decodes z h.own h.left fresh h.obeys) d h.comes.0 in
+      subst (λ k. SingleIs B S z k w) (sym e)
+      (record { is_sticky = ap (λ (k : Reading). k.failed) (subst (λ k. w ≡ failing_on_err k y) e state); none = no_prefix d t })
+
+  single_is : (q : Result A ASN1Error) (w : Reading) → ReadsSingle N z q w → SingleIs B S z q w
+  single_is q w h = came h.outcome h.between w q h.hands h.returned h.state
+
+-- a list around the item at a place
+whole_at : {X : Type 0} (l : List X) (i : ℕ) (x : X) → i < length l → ((d : X) → slice_index_or l i d ≡ x) → l ≡ take i l ++ (x ∷ drop (suc i) l)
+whole_at [] i x p h = absurd (omega (arith, p))
+whole_at (y ∷ l) zero x p h = ap (λ k. k ∷ l) (h y)
+whole_at (y ∷ l) (suc i) x p h = ap (λ k. y ∷ k) (whole_at l i x (omega (arith, p)) (λ d. h d))
+
+bytes_append : (a b : List SetElement) → bytes_of (a ++ b) ≡ bytes_of a ++ bytes_of b
+bytes_append [] b = refl
+bytes_append (x ∷ a) b = ap (λ k. x.bytes.now ∷ k) (bytes_append a b)
+
+-- the tag of an element that was found is that which its bytes begin with
+found_tag : (n : ℕ) (m : BERMode) (x : SetElement) (f : (v : RawValue) × IsElementOf n m x v) → BeginsWithTag x.tag x.bytes.now
+found_tag n m x f = subst (λ t. BeginsWithTag t x.bytes.now) (sym f.1.tag) (raw_begins n m f.0 x.bytes.now f.1.raw).begins
+
+only_tag : (t u : Tag) → Contains (t ∷ []) u → t ≡ u
+only_tag t u (zero, p, e) = e
+only_tag t u (suc k, p, e) = absurd (omega (arith, p))
+
+none_has : (t : Tag) (n : ℕ) (m : BERMode) (l : List SetElement) → ((k : ℕ) (d : SetElement) → 0 ≤ k → k < length l → IsAmong (t ∷ []) (slice_index_or l k d) → ⊥) →
+    AreFound n m l → AllByRecursion (λ b. BeginsWithTag t b → ⊥) (bytes_of l)
+none_has t n m [] h f = tt
+none_has t n m (x ∷ l) h f = (
+  λ b. h 0 x (omega arith) (omega arith) (0, omega arith, begins_once t x.tag x.bytes.now b (found_tag n m x f.0)),
+  none_has t n m l (λ k d a p. h (suc k) d (omega arith) (omega (arith, p))) f.1,
+)
+
+-- an element of the tag was chosen, and read as v
+record Chose {A : Type 0} (B : A → List ℕ → Type 0) (t : Tag) (c : SetReading) (v : A) (c' : SetReading) : Type 0 where
+  prefix_before : List (List ℕ)
+  one : List ℕ
+  after : List (List ℕ)
+  whole : bytes_of c.list.items ≡ prefix_before ++ (one ∷ after)
+  others : bytes_of c'.list.items ≡ prefix_before ++ after
+  has_tag : BeginsWithTag t one
+  encodes : B v one
+  reader : c'.reader ≡ record c.reader { left = [] }
+  found : AreFound c.reader.levels c.reader.mode c'.list.items
+
+-- there is no element of the tag
+record ChoseNone (t : Tag) (c c' : SetReading) : Type 0 where
+  none : AllByRecursion (λ b. BeginsWithTag t b → ⊥) (bytes_of c.list.items)
+  others : c'.list.items ≡ c.list.items
+  reader : c'.reader ≡ c.reader
+
+-- an element of the tag was chosen, and is no encoding
+record ChoseWrong (S : List ℕ → Type 0) (t : Tag) (c : SetReading) (e : ASN1Error) (c' : SetReading) : Type 0 where
+  prefix_before : List (List ℕ)
+  one : List ℕ
+  after : List (List ℕ)
+  whole : bytes_of c.list.items ≡ prefix_before ++ (one ∷ after)
+  has_tag : BeginsWithTag t one
+  none : (kind_of e ≡ OutOfMemory → ⊥) → S one → ⊥
+  is_sticky : c'.reader.failed ≡ Some e
+
+abbrev ChosenIs : {A : Type 0} → Grammar A → Members → Tag → SetReading → Result (Option A) ASN1Error → SetReading → Type 0
+ChosenIs B S t c (Ok (Some v)) c' = Chose (B c.reader.mode c.reader.levels) t c v c'
+ChosenIs B S t c (Ok None) c' = ChoseNone t c c'
+ChosenIs B S t c (Err e) c' = ChoseWrong (S c.reader.mode c.reader.levels) t c e c'
+
+module _ {A : Type 0} {E : A → A → Type 0} {B : Grammar A} {S : Members} (laws : IsCoding E B S) (may_allocate : Bool) (N : Does A)
+    (decoder : IsDecoder may_allocate B S N) (t : Tag) (c c' : SetReading) (fresh : IsFresh c.reader)
+    (found : AreFound c.reader.levels c.reader.mode c.list.items) where
+  taken : (r : Result (Option A) ASN1Error) → ReadsTaken N (t ∷ []) c r c' → ChosenIs B S t c r c'
+  taken r h = by_own h.own (single_is laws may_allocate N decoder h.single single_fresh h.own c'.reader h.reads) h.returned
+    where
+      place : ℕ
+      place = h.takes.place
+
+      element : SetElement
+      element = h.takes.element
+
+      l : List SetElement
+      l = c.list.items
+
+      l_is : l ≡ take place l ++ (element ∷ drop (suc place) l)
+      l_is = whole_at l place element h.takes.first.inside (λ d. h.takes.found d)
+
+      single_fresh : IsFresh h.single
+      single_fresh = (ap (λ (k : Reading). k.failed) h.takes.state ∙ fresh.0, ap (λ (k : Reading). k.tag) h.takes.state)
+
+      split : ((v : RawValue) × IsElementOf c.reader.levels c.reader.mode element v) ×
+          AreFound c.reader.levels c.reader.mode (take place l ++ drop (suc place) l)
+      split = all_others (λ (x : SetElement). (v : RawValue) × IsElementOf c.reader.levels c.reader.mode x v) (take place l) element (drop (suc place) l)
+          (subst (AreFound c.reader.levels c.reader.mode) l_is found)
+
+      whole_is : bytes_of l ≡ bytes_of (take place l) ++ (element.bytes.now ∷ bytes_of (drop (suc place) l))
+      whole_is = ap bytes_of l_is ∙ bytes_append (take place l) (element ∷ drop (suc place) l)
+
+      others_are : bytes_of c'.list.items ≡ bytes_of (take place l) ++ bytes_of (drop (suc place) l)
+      others_are = ap bytes_of h.takes.others ∙ bytes_append (take place l) (drop (suc place) l)
+
+      tag_is : BeginsWithTag t element.bytes.now
+      tag_is =
+          let same = only_tag t element.tag (subst (λ (x : SetElement). IsAmong (t ∷ []) x) (h.takes.found element) (h.takes.first.here element)) in
+          subst (λ u. BeginsWithTag u element.bytes.now) (sym same) (found_tag c.reader.levels c.reader.mode element split.0)
+
+      left_is : h.single.left ≡ element.bytes.now
+      left_is = ap (λ (k : Reading). k.left) h.takes.state
+
+      mode_is : h.single.mode ≡ c.reader.mode
+      mode_is = ap (λ (k : Reading). k.mode) h.takes.state
+
+      levels_is : h.single.levels ≡ c.reader.levels
+      levels_is = ap (λ (k : Reading). k.levels) h.takes.state
+
+      by_own : (q : Result A ASN1Error) → SingleIs B S h.single q c'.reader → r ≡ some q → ChosenIs B S t c r c'
+      by_own (Ok v) k e = subst (λ x. ChosenIs B S t c x c') (sym e) (record {
+        prefix_before = bytes_of (take place l);
+        one = element.bytes.now;
+        after = bytes_of (drop (suc place) l);
+        whole = whole_is;
+        others = others_are;
+        has_tag = tag_is;
+        encodes = subst (λ (y : Reading). B y.mode y.levels v y.left) h.takes.state k.encodes;
+        reader = k.state ∙ ap (λ (y : Reading). record y { left = [] }) h.takes.state
+            ∙ ap (λ (u : Option Tag). record c.reader { left = []; tag = u }) (sym fresh.1);
+        found = subst (AreFound c.reader.levels c.reader.mode) (sym h.takes.others) split.1;
+      })
+      by_own (Err d) k e = subst (λ x. ChosenIs B S t c x c') (sym e) (record {
+        prefix_before = bytes_of (take place l);
+        one = element.bytes.now;
+        after = bytes_of (drop (suc place) l);
+        whole = whole_is;
+        has_tag = tag_is;
+        none = subst (λ (y : Reading). (kind_of d ≡ OutOfMemory → ⊥) → S y.mode y.levels y.left → ⊥) h.takes.state k.none;
+        is_sticky = k.is_sticky;
+      })
+
+  none_chosen : (r : Result (Option A) ASN1Error) → ReadsNone (t ∷ []) c r c' → ChosenIs B S t c r c'
+  none_chosen r h = subst (λ x. ChosenIs B S t c x c') (sym h.returned) (record {
+    none = none_has t c.reader.levels c.reader.mode c.list.items h.none found;
+    others = h.others;
+    reader = h.state ∙ ap (λ (u : Option Tag). record c.reader { tag = u }) (sym fresh.1);
+  })
+
+  chosen_is : (r : Result (Option A) ASN1Error) → ReadsChosen N (t ∷ []) c r c' → ChosenIs B S t c r c'
+  chosen_is r h = elim (subst (λ k. ReadsChosenBy k N (t ∷ []) c r c') fresh.0 h.reads) [
+    | inl x ↦ taken r x
+    | inr x ↦ none_chosen r x
+  ]
+
+-- the result of a SET of parts, of which the first was read before
+paired_result : {A V : Type 0} (v : A) (r : Result V ASN1Error) (k : Option ASN1Error) (l : List SetElement) →
+    paired v (unless_failed k (all_taken r l)) ≡ unless_failed k (all_taken (paired v r) l)
+paired_result v r (Some e) l = refl
+paired_result v (Err e) None l = refl
+paired_result v (Ok w) None [] = refl
+paired_result v (Ok w) None (x ∷ l) = refl
+
+-- a part that is chosen is read as the closure's calls read it
+pub chosen_called : {A F : Type 0} (g : Once F (MutBor Reading × Unit {0}) (Result A ASN1Error × (MutBor Reading × Unit {0}))) (f : F) (N : Does A)
+    (ts : List Tag) (c : SetReading) (r : Result (Option A) ASN1Error) (c' : SetReading) → ReadsChosen (FnOnceReturnsAtMut g f) ts c r c' →
+    ((p q : MutBor Reading) (x : Result A ASN1Error) → g.post f (p, tt) (x, (q, tt)) → N p.now x q.now) → ReadsChosen N ts c r c'
+chosen_called {A} g f N ts c r c' h obeys = record { reads = by_sticky c.reader.failed h.reads }
+  where
+    prefix_free : (z : Reading) (q : Result A ASN1Error) (w : Reading) → ReadsSingle (FnOnceReturnsAtMut g f) z q w → ReadsSingle N z q w
+    prefix_free z q w k = record {
+      outcome = k.outcome;
+      between = k.between;
+      hands = record { own = k.hands.own; left = k.hands.left; obeys = by_run N obeys z k.hands.own k.hands.left k.hands.obeys; comes = k.hands.comes };
+      returned = k.returned;
+      state = k.state;
+    }
+
+    by_sticky : (k : Option ASN1Error) → ReadsChosenBy k (FnOnceReturnsAtMut g f) ts c r c' → ReadsChosenBy k N ts c r c'
+    by_sticky (Some e) x = x
+    by_sticky None (inl x) = inl (record { single = x.single; takes = x.takes; own = x.own; reads = prefix_free x.single x.own c'.reader x.reads; returned = x.returned })
+    by_sticky None (inr x) = inr x
+
+-- where the tags are known
+pub chosen_under : {A : Type 0} (N : Does A) (t u : Tag) (c : SetReading) (r : Result (Option A) ASN1Error) (c' : SetReading) → u ≡ t →
+    ReadsChosen N (u ∷ []) c r c' → ReadsChosen N (t ∷ []) c r c'
+chosen_under N t u c r c' e h = subst (λ k. ReadsChosen N (k ∷ []) c r c') e h
+
+module _ {A V : Type 0} {t : Tag} {us : List Tag} {E : A → A → Type 0} {F : V → V → Type 0} {B : Grammar A} {C : Grammar V} {S M : Members}
+    {P : Pieced V} {f : Encoding A} {G : Fitting A} {can : A → Type 0} (x : IsNotation true (t ∷ []) E B S f G can) (whole : AreElements S)
+    (y : AreSetParts us F C P M) (above : goes_before t us ≡ true) (none : share_none (t ∷ []) us ≡ true) (may_allocate : Bool) (N : Does A)
+    (decoder : IsDecoder may_allocate B S N) (c : SetReading) (r : Result (Option A) ASN1Error) (c1 : SetReading) (h : ReadsChosen N (t ∷ []) c r c1) where
+  abbrev m : BERMode
+  m = c.reader.mode
+
+  abbrev n : ℕ
+  n = c.reader.levels
+
+  abbrev ps : List (List ℕ)
+  ps = bytes_of c.list.items
+
+  chosen : (q : Result (Option A) ASN1Error) → r ≡ q → IsFresh c.reader → AreFound n m c.list.items → ChosenIs B S t c q c1
+  chosen q is fresh found = subst (λ k. ChosenIs B S t c k c1) is (chosen_is x.coding may_allocate N decoder t c c1 fresh found r h)
+
+  -- the part's encoding is the element that was chosen
+  same_one : (v : A × V) (p : PickOf B P m n v ps) (a : List (List ℕ)) (b : List ℕ) (d : List (List ℕ)) → ps ≡ a ++ (b ∷ d) → BeginsWithTag t b →
+      (a ≡ p.before) × (b ≡ p.one) × (d ≡ p.after)
+  same_one v p a b d e k = pick_once (BeginsWithTag t) a p.before b p.one d p.after (sym e ∙ p.joined) k
+      (others_without x whole y above none m n v.1 (p.before ++ p.after) p.more)
+
+  -- what has no part holds no element of its tag
+  not_without : (w : V) (a : List (List ℕ)) (b : List ℕ) (d : List (List ℕ)) → ps ≡ a ++ (b ∷ d) → BeginsWithTag t b → P m n w ps → ⊥
+  not_without w a b d e k p =
+      (all_others (λ z. BeginsWithTag t z → ⊥) a b d (subst (AllByRecursion (λ z. BeginsWithTag t z → ⊥)) e (others_without x whole y above none m n w ps p))).0 k
+
+  not_within : (v : A × V) → AllByRecursion (λ z. BeginsWithTag t z → ⊥) ps → PickOf B P m n v ps → ⊥
+  not_within v without p =
+      (all_others (λ z. BeginsWithTag t z → ⊥) p.before p.one p.after (subst (AllByRecursion (λ z. BeginsWithTag t z → ⊥)) p.joined without)).0
+      (tagged x whole y above none m n v.0 p.one p.here)
+
+  wrong_none : (e : ASN1Error) → ChosenIs B S t c (Err e) c1 → (kind_of e ≡ OutOfMemory → ⊥) → (v : A × V) → PickOf B P m n v ps → ⊥
+  wrong_none e k q v p =
+      let z = same_one v p k.prefix_before k.one k.after k.whole k.has_tag in
+      k.none q (subst (λ b. S m n b) (sym z.1) (x.coding.meaning.among m n v.0 p.one p.here))
+
+  result_wrong : {U : Type 0} (e : ASN1Error) → ChosenIs B S t c (Err e) c1 → set_result {A = U} (Err e) c1 ≡ Err e
+  result_wrong e k = ap (λ z. unless_failed z (Err e)) k.is_sticky
+
+  result_none : {U : Type 0} (e : ASN1Error) → IsFresh c.reader → ChoseNone t c c1 → set_result {A = U} (Err e) c1 ≡ Err e
+  result_none e fresh k = ap (λ z. unless_failed z (Err e)) (ap (λ (z : Reading). z.failed) k.reader ∙ fresh.0)
+
+  -- what was read of the others
+  after : (v : A) (r2 : Result V ASN1Error) (c2 : SetReading) → IsFresh c.reader → Chose (B m n) t c v c1 → ReadsSetParts P c1 r2 c2 →
+      ReadsPicks (P m n) (bytes_of c1.list.items) (set_result r2 c2)
+  after v r2 c2 fresh k s =
+      let is = k.reader in
+      let now : IsFresh c1.reader = (ap (λ (z : Reading). z.failed) is ∙ fresh.0, ap (λ (z : Reading). z.tag) is ∙ fresh.1) in
+      let there = subst (λ (z : Reading). AreFound z.levels z.mode c1.list.items) (sym is) k.found in
+      subst (λ (z : Reading). ReadsPicks (P z.mode z.levels) (bytes_of c1.list.items) (set_result r2 c2)) is (s.reads now there)
+
+  after_none : (r2 : Result V ASN1Error) (c2 : SetReading) → IsFresh c.reader → AreFound n m c.list.items → ChoseNone t c c1 → ReadsSetParts P c1 r2 c2 →
+      ReadsPicks (P m n) ps (set_result r2 c2)
+  after_none r2 c2 fresh found k s =
+      let is = k.reader in
+      let now = subst IsFresh (sym is) fresh in
+      let there = subst (λ (z : Reading). AreFound z.levels z.mode c1.list.items) (sym is) (subst (AreFound n m) (sym k.others) found) in
+      subst (λ l. ReadsPicks (P m n) (bytes_of l) (set_result r2 c2)) k.others
+      (subst (λ (z : Reading). ReadsPicks (P z.mode z.levels) (bytes_of c1.list.items) (set_result r2 c2)) is (s.reads now there))
+
+  both : (v : A) (z : Result V ASN1Error) → Chose (B m n) t c v c1 → ReadsPicks (P m n) (bytes_of c1.list.items) z → ReadsPicks (PickOf B P m n) ps (paired v z)
+  both v (Ok w) k i = record {
+    before = k.prefix_before;
+    one = k.one;
+    after = k.after;
+    joined = k.whole;
+    here = k.encodes;
+    more = subst (λ qs. P m n w qs) k.others i;
+  }
+  both v (Err e) k i = λ q u p.
+      let z = same_one u p k.prefix_before k.one k.after k.whole k.has_tag in
+      i q u.1 (subst (λ qs. P m n u.1 qs) (sym (k.others ∙ ap₂ (λ a b. a ++ b) z.0 z.2)) p.more)
+
+  -- a mandatory part whose element is rejected
+  pub part_wrong : (e : ASN1Error) → r ≡ Err e → ReadsSetParts (PickOf B P) c (Err e) c1
+  part_wrong e is = record {
+    reads = λ fresh found.
+        let k = chosen (Err e) is fresh found in
+        subst (ReadsPicks (PickOf B P m n) ps) (sym (result_wrong e k)) (λ q v p. wrong_none e k q v p);
+  }
+
+  -- a mandatory part that is missing
+  pub part_missing : (o : Option A) → r ≡ Ok o → o ≡ None → (e : ASN1Error) → ReadsSetParts (PickOf B P) c (Err e) c1
+  part_missing o is none e = record {
+    reads = λ fresh found.
+        let k = chosen (Ok None) (is ∙ ap (λ z. Ok z) none) fresh found in
+        subst (ReadsPicks (PickOf B P m n) ps) (sym (result_none e fresh k)) (λ q v p. not_within v k.none p);
+  }
+
+  -- a mandatory part that was read, before the others
+  pub part_read : (o : Option A) (v : A) → r ≡ Ok o → o ≡ Some v → (r2 : Result V ASN1Error) (c2 : SetReading) → ReadsSetParts P c1 r2 c2 →
+      ReadsSetParts (PickOf B P) c (paired v r2) c2
+  part_read o v is one r2 c2 s = record {
+    reads = λ fresh found.
+        let k = chosen (Ok (Some v)) (is ∙ ap (λ z. Ok z) one) fresh found in
+        subst (ReadsPicks (PickOf B P m n) ps) (paired_result v r2 c2.reader.failed c2.list.items) (both v (set_result r2 c2) k (after v r2 c2 fresh k s));
+  }
+
+  maybe_wrong : (e : ASN1Error) → ChosenIs B S t c (Err e) c1 → (kind_of e ≡ OutOfMemory → ⊥) → (o : Option A) (w : V) → PickMaybe (B m n) (P m n w) o ps → ⊥
+  maybe_wrong e k q (Some v) w p = wrong_none e k q (v, w) p
+  maybe_wrong e k q None w p = not_without w k.prefix_before k.one k.after k.whole k.has_tag p
+
+  maybe_both : (v : A) (z : Result V ASN1Error) → Chose (B m n) t c v c1 → ReadsPicks (P m n) (bytes_of c1.list.items) z →
+      ReadsPicks (OptionPick B P m n) ps (paired (Some v) z)
+  maybe_both v (Ok w) k i = both v (Ok w) k i
+  maybe_both v (Err e) k i = λ q u p. by_part q u.0 u.1 p
+    where
+      by_part : (kind_of e ≡ OutOfMemory → ⊥) → (o : Option A) (w : V) → PickMaybe (B m n) (P m n w) o ps → ⊥
+      by_part q (Some u) w p = both v (Err e) k i q (u, w) p
+      by_part q None w p = not_without w k.prefix_before k.one k.after k.whole k.has_tag p
+
+  maybe_none : (z : Result V ASN1Error) → ChoseNone t c c1 → ReadsPicks (P m n) ps z → ReadsPicks (OptionPick B P m n) ps (paired None z)
+  maybe_none (Ok w) k i = i
+  maybe_none (Err e) k i = λ q u p. by_part q u.0 u.1 p
+    where
+      by_part : (kind_of e ≡ OutOfMemory → ⊥) → (o : Option A) (w : V) → PickMaybe (B m n) (P m n w) o ps → ⊥
+      by_part q (Some u) w p = not_within (u, w) k.none p
+      by_part q None w p = i q w p
+
+  -- an OPTIONAL part whose element is rejected
+  pub option_wrong : (e : ASN1Error) → r ≡ Err e → ReadsSetParts (OptionPick B P) c (Err e) c1
+  option_wrong e is = record {
+    reads = λ fresh found.
+        let k = chosen (Err e) is fresh found in
+        subst (ReadsPicks (OptionPick B P m n) ps) (sym (result_wrong e k)) (λ q v p. maybe_wrong e k q v.0 v.1 p);
+  }
+
+  -- an OPTIONAL part that was read or is omitted, before the others
+  pub option_read : (o : Option A) → r ≡ Ok o → (r2 : Result V ASN1Error) (c2 : SetReading) → ReadsSetParts P c1 r2 c2 →
+      ReadsSetParts (OptionPick B P) c (paired o r2) c2
+  option_read (Some v) is r2 c2 s = record {
+    reads = λ fresh found.
+        let k = chosen (Ok (Some v)) is fresh found in
+        subst (ReadsPicks (OptionPick B P m n) ps) (paired_result (Some v) r2 c2.reader.failed c2.list.items)
+        (maybe_both v (set_result r2 c2) k (after v r2 c2 fresh k s));
+  }
+  option_read None is r2 c2 s = record {
+    reads = λ fresh found.
+        let k = chosen (Ok None) is fresh found in
+        subst (ReadsPicks (OptionPick B P m n) ps) (paired_result None r2 c2.reader.failed c2.list.items)
+        (maybe_none (set_result r2 c2) k (after_none r2 c2 fresh found k s));
+  }
