@@ -4,3 +4,5 @@ pub mod Readings
 pub mod BitEnds
 pub mod SetReading
 pub mod Sets
+pub mod Tails
+pub mod Possibles

@@ -7,3 +7,7 @@ pub mod LeastBits
 pub mod SetParts
 pub mod SetReading
 pub mod Elements
+pub mod Rest
+pub mod Beginning
+pub mod Others
+pub mod Profile

@@ -6,6 +6,8 @@
 //! | `plain_bits` | BIT STRING whose unused bits have no meaning |
 //! | `named_bits`, `least_bits` | BIT STRING with named bits, written as it is or without zero bits at its end |
 //! | `open_choice` | an extensible CHOICE |
+//! | `rest` | the elements at the end of an extensible SEQUENCE, after mandatory parts |
+//! | `others`, `possible_default`, `beginning` | these elements after OPTIONAL and DEFAULT parts, and such parts |
 //! | `elements` | types each of whose encodings is one element |
 //! | `set_parts` | SET of parts |
 //!
@@ -17,18 +19,24 @@
 //! | `key_info` | `plain_bits` |
 //! | `usage` | `least_bits` |
 //! | `shape` | `open_choice` |
+//! | `profile` | `others`, `possible_default` |
 //! | `person` | `set_parts` |
 #![tactic(auto)]
 
+mod beginning;
 mod elements;
 mod key_info;
 mod least_bits;
 mod named;
 mod named_bits;
 mod open_choice;
+mod others;
 mod person;
 mod plain_bits;
+mod possible_default;
+mod profile;
 mod reply;
+mod rest;
 mod set_parts;
 mod shape;
 mod statuses;
@@ -36,15 +44,20 @@ mod statuses;
 mod tests;
 mod usage;
 
+pub use beginning::Beginning;
 pub use elements::{ElementParts, Elements, OneElement};
 pub use key_info::KeyInfo;
 pub use least_bits::LeastBits;
 pub use named::{Named, Numbered};
 pub use named_bits::NamedBits;
 pub use open_choice::OpenChoice;
+pub use others::{Others, Possible};
 pub use person::Person;
 pub use plain_bits::PlainBits;
+pub use possible_default::PossibleDefault;
+pub use profile::Profile;
 pub use reply::Reply;
+pub use rest::Rest;
 pub use set_parts::{Set, SetParts};
 pub use shape::Shape;
 pub use statuses::{ResponseStatus, ResultCode};

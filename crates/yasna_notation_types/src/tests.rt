@@ -1,6 +1,6 @@
 //! What the examples read and write. Encodings in DER are those of `openssl asn1parse -genconf`, and those of sets in BER are of `pyasn1`.
 
-use crate::{KeyInfo, Person, Reply, Shape, Usage};
+use crate::{KeyInfo, Person, Profile, Reply, Shape, Usage};
 use std::alloc::Global;
 use std::process::Abort;
 use yasna::{
@@ -14,6 +14,7 @@ use yasna_notation::Encoded;
 enum Kind {
     KeyInfo,
     Person,
+    Profile,
     Reply,
     Shape,
     Usage,
@@ -33,7 +34,7 @@ enum Claim {
 /// A type, what is claimed, the row's name, and its octets.
 type Row = (Kind, Claim, &'static str, &'static [u8]);
 
-static ROWS: [Row; 29] = [
+static ROWS: [Row; 37] = [
     (
         Kind::Reply,
         Claim::IsEncoding,
@@ -203,6 +204,56 @@ static ROWS: [Row; 29] = [
         "an element more",
         &[0x31, 9, 1, 1, 0xff, 2, 1, 5, 0x81, 1, 42],
     ),
+    (
+        Kind::Profile,
+        Claim::IsEncoding,
+        "known parts",
+        &[0x30, 6, 2, 1, 5, 0x80, 1, 0xff],
+    ),
+    (
+        Kind::Profile,
+        Claim::IsEncoding,
+        "two unknown elements",
+        &[
+            0x30, 15, 2, 1, 5, 0x80, 1, 0xff, 12, 1, 0x61, 0x30, 4, 5, 0, 5, 0,
+        ],
+    ),
+    (
+        Kind::Profile,
+        Claim::IsEncoding,
+        "one unknown only",
+        &[0x30, 6, 2, 1, 5, 12, 1, 0x61],
+    ),
+    (
+        Kind::Profile,
+        Claim::IsEncoding,
+        "another than the default",
+        &[0x30, 9, 2, 1, 5, 1, 1, 0xff, 12, 1, 0x61],
+    ),
+    (
+        Kind::Profile,
+        Claim::IsEncoding,
+        "the number only",
+        &[0x30, 3, 2, 1, 5],
+    ),
+    (
+        Kind::Profile,
+        Claim::IsRejected,
+        "a known part twice",
+        &[0x30, 9, 2, 1, 5, 0x80, 1, 0xff, 0x80, 1, 0xff],
+    ),
+    (
+        Kind::Profile,
+        Claim::IsRejected,
+        "known parts that change places",
+        &[0x30, 9, 2, 1, 5, 0x80, 1, 0xff, 1, 1, 0xff],
+    ),
+    (
+        Kind::Profile,
+        Claim::IsRejected,
+        "an unknown element, cut off",
+        &[0x30, 6, 2, 1, 5, 12, 2, 0x61],
+    ),
 ];
 
 // What is read in DER, written again.
@@ -265,6 +316,7 @@ fn is_so(alloc: Global, kind: Kind, bytes: &[u8], claim: Claim) -> bool {
     match kind {
         Kind::KeyInfo => holds_or_becomes::<Encoded<KeyInfo>>(alloc, bytes, claim),
         Kind::Person => holds_or_becomes::<Encoded<Person>>(alloc, bytes, claim),
+        Kind::Profile => holds::<Encoded<Profile>>(alloc, bytes, claim),
         Kind::Reply => holds_or_becomes::<Encoded<Reply>>(alloc, bytes, claim),
         Kind::Shape => holds::<Encoded<Shape>>(alloc, bytes, claim),
         Kind::Usage => holds_or_becomes::<Encoded<Usage>>(alloc, bytes, claim),
