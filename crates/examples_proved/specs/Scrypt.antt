@@ -2,9 +2,9 @@
 use Rattle.std.specs.Prelude.{◌≡◌, ℕ, pos, Option, Vec, true, false}
 use Rattle.std.specs.Global.{Global}
 use Rattle.yasna.specs.Words.{Grammar, Members, Encoding, Depth, Any, Enclosed, AnyEnclosed, sequence_tag, PartOf, NoParts, AnyPart, AnyNothing}
-use Rattle.yasna.specs.Words.{EncodesVec, EncodesOctets, octets_tag, octets_encoding, octets_depth, IsBytes, EncodesUnsigned, integer_tag, integer_encoding}
-use Rattle.yasna.specs.Words.{OptionOf, AnyOption, SameOption, option_encoding, option_depth, option_can, SamePart, SameNothing, part_encoding}
-use Rattle.yasna.specs.Words.{part_depth, part_can, nothing_encoding, nothing_depth, leaf_depth, enclosed_encoding, enclosed_depth, Always}
+use Rattle.yasna.specs.Words.{EncodesVec, EncodesOctets, octets_tag, octets_encoding, octets_depth, EncodesUnsigned, integer_tag, integer_encoding}
+use Rattle.yasna.specs.Words.{OptionOf, AnyOption, SameOption, option_encoding, option_depth, SamePart, SameNothing, part_encoding}
+use Rattle.yasna.specs.Words.{part_depth, nothing_encoding, nothing_depth, leaf_depth, enclosed_encoding, enclosed_depth}
 use Rattle.yasna.specs.Words.{Does, Decodes, ReadsOptional, Step, Done}
 use Rattle.examples_proved.specs.declared.scrypt.ScryptParameters.{ScryptParameters}
 

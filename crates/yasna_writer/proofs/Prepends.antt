@@ -1,5 +1,5 @@
 -- Bytes that are prepended to others.
-use Rattle.std.proofs.Common.{◌≡◌, ℕ, ◌+◌, ◌-◌, ◌≤◌, List, [], ◌∷◌, ◌++◌, length, take, drop, refl, sym, ap, ap₂, ◌∙◌, subst, arith, append_assoc, length-append}
+use Rattle.std.proofs.Common.{◌≡◌, ℕ, ◌+◌, ◌-◌, ◌≤◌, List, [], ◌∷◌, ◌++◌, length, drop, sym, ap, ap₂, ◌∙◌, subst, arith, append_assoc, length-append}
 use Rattle.std.proofs.lemmas.List.{drop-drop, drop-append-le, flat_map_more}
 use Rattle.std.proofs.lemmas.Result.{MatchResult-weaker}
 use Rattle.std.specs.List.{AllByRecursion, flat_map}
@@ -8,7 +8,6 @@ use Rattle.yasna_base.specs.declared.error.ASN1Error.{ASN1Error}
 use Rattle.yasna_base.specs.declared.mode.BERMode.{BERMode}
 use Rattle.yasna_base.specs.declared.mode.BERMode.TheVariants.{Ber, Der, Cer}
 use Rattle.yasna_base.specs.declared.tag.Tag.{Tag}
-use Rattle.yasna_base.specs.declared.tag.PCBit.{PCBit}
 use Rattle.yasna_base.specs.declared.tag.PCBit.TheVariants.{Primitive, Constructed}
 use Rattle.yasna_base.specs.Canonical.{canonical_element, definite_element, indefinite_element}
 use Rattle.yasna_base.specs.Grammar.{Encoding}

@@ -1,4 +1,4 @@
-use Rattle.std.proofs.Common.{◌≡◌, None, length, ap, ◌∙◌, rules}
+use Rattle.std.proofs.Common.{None, length, ap, ◌∙◌, rules}
 use Rattle.std.proofs.lemmas.List.{take_all}
 use Rattle.yasna_base.specs.SequenceOf.{elements_encoding}
 use Rattle.yasna_writer.proofs.KnownLengths.{items_length_more}

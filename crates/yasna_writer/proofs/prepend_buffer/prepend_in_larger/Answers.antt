@@ -1,4 +1,4 @@
-use Rattle.std.proofs.Common.{◌≡◌, ◌≤◌, ◌-◌, ◌++◌, length, take, drop, ap, ◌∙◌, append_assoc, arith, rules}
+use Rattle.std.proofs.Common.{◌≡◌, ◌-◌, ◌++◌, length, take, drop, ap, ◌∙◌, append_assoc, rules}
 use Rattle.std.proofs.lemmas.List.{drop_at, take_rest}
 use Rattle.yasna_writer.proofs.prepend_buffer.prepend_in_larger.Goals as goal
 

@@ -1,4 +1,4 @@
-use Rattle.std.proofs.Common.{◌≡◌, ◌≤◌, ◌-◌, ◌+◌, ◌++◌, drop, length, refl, ap, ◌∙◌, subst, arith, rules}
+use Rattle.std.proofs.Common.{◌≡◌, ◌≤◌, ◌-◌, ◌+◌, drop, length, refl, ap, ◌∙◌, subst, arith, rules}
 use Rattle.std.proofs.lemmas.List.{with_items_is}
 use Rattle.yasna_writer.specs.Prepend.{with_prefix}
 use Rattle.yasna_writer.specs.Put.{PutBefore}

@@ -1,7 +1,5 @@
-use Rattle.std.proofs.Common.{◌≡◌, ◌++◌, ◌-◌, length, ap, sym, ◌∙◌, refl, arith, length-append}
+use Rattle.std.proofs.Common.{◌≡◌, ◌++◌, length, ap, sym, ◌∙◌, refl, arith, length-append}
 use Rattle.std.specs.List.{flat_map}
-use Rattle.yasna_base.specs.declared.tag.PCBit.TheVariants.{Primitive}
-use Rattle.yasna_base.specs.Canonical.{canonical_element}
 use Rattle.yasna_base.specs.Digits.{base128}
 use Rattle.yasna_base.specs.Oid.{subidentifiers}
 use Rattle.yasna_writer.specs.Prepend.{Prepended}
