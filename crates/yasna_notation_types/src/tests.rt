@@ -1,4 +1,5 @@
-//! What the examples read and write. Encodings in DER are those of `openssl asn1parse -genconf`, and those of sets in BER are of `pyasn1`.
+//! What the examples read and write. Some rows have the octets of `openssl asn1parse -genconf`, or of `pyasn1` where a SET is in another order, and one
+//! those of X.690, 8.6.4.2. The others are written by hand.
 
 use crate::{KeyInfo, Person, Profile, Reply, Shape, Usage};
 use std::alloc::Global;
