@@ -1,5 +1,5 @@
 #!/bin/sh
-# Refused memory: each request for memory of each vector is refused once, in a run of its own. The vector is to return want
+# Refused memory: each request for memory of each vector is refused once, in a run of its own. The vector is to return out
 # of memory then, and the vectors beside it what they return with ample memory.
 #
 #   sh ci/refused_memory.sh [JOBS]     JOBS runs go on side by side, 2 where it isn't said
