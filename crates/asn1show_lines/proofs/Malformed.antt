@@ -1,15 +1,18 @@
 -- What is said of the place and the kind of an error, and of a block that has one.
-use Rattle.std.proofs.Common.{◌≡◌, inr, ℕ, List, sym, subst, Result, Ok, Err}
+use Rattle.std.proofs.Common.{◌≡◌, inl, inr, refl, ℕ, List, sym, subst, Result, Ok, Err}
 use Rattle.std.specs.Global.{Global}
 use Rattle.std.specs.List.{concat}
 use Rattle.std.specs.Prelude.{IfErr, IfOk, Vec}
 use Rattle.yasna_base.specs.declared.error.ASN1ErrorKind.{ASN1ErrorKind}
-use Rattle.asn1show_walk.specs.Errors.{IsMalformed, WalkFails}
+use Rattle.yasna_base.specs.declared.mode.BERMode.{BERMode}
+use Rattle.asn1show_walk.specs.Errors.{IsExternal, IsMalformed, WalkFails}
+use Rattle.asn1show_walk.specs.Reading.{NoElements}
+use Rattle.asn1show_walk.specs.WellFormed.{AreElements}
 use Rattle.asn1show_walk.specs.declared.error.Expected.{Expected}
 use Rattle.asn1show_walk.specs.declared.error.WalkError.{WalkError}
 use Rattle.asn1show_walk.specs.declared.error.WalkError.TheVariants.{Malformed, Memory, Output, ClosedOutput}
 use Rattle.asn1show_walk.proofs.WalkFails.{fails_by}
-use Rattle.asn1show_lines.specs.Reader.{texts, IsBody, IsDecoded, NoBase64, NoBlock, NoBody, no_base64, no_body}
+use Rattle.asn1show_lines.specs.Reader.{texts, BlockFails, BlockLacks, IsBody, IsDecoded, NoBase64, NoBlock, NoBody, no_base64, no_body}
 use Rattle.asn1show_lines.specs.Text.{IsBase64, IsOutOfMemory}
 use Rattle.asn1show_lines.specs.declared.block.Line.{Line}
 
@@ -42,3 +45,24 @@ module _ (lines : List Line) (end : ℕ) where
 
   pub by_no_body : (f : WalkError) → IsMalformed (NoBody lines end) f → WalkFails IsOutOfMemory (NoBlock lines end) f
   by_no_body f x = inr (malformed_by (NoBody lines end) (NoBlock lines end) f (λ o k n. no_body n) x)
+
+-- ---- a block that isn't elements
+
+-- the error that a block has in place of bytes is the one that is returned of it
+pub own_error : (Q : List ℕ → ℕ → ASN1ErrorKind → Type 0) (f : WalkError) → WalkFails IsExternal (BlockFails Q (Err f)) f
+own_error Q (Malformed o k e) = inr (refl, refl)
+own_error Q Memory = inl tt
+own_error Q Output = inl tt
+own_error Q ClosedOutput = inl tt
+
+malformed_not_external : (P : ℕ → ASN1ErrorKind → Type 0) (f : WalkError) → IsMalformed P f → IsExternal f → ⊥
+malformed_not_external P (Malformed o k e) x y = y
+malformed_not_external P Memory x y = x
+malformed_not_external P Output x y = x
+malformed_not_external P ClosedOutput x y = x
+
+-- a block that fails so doesn't encode elements
+pub lacks_elements : (n : ℕ) (m : BERMode) (r : Result (Vec ℕ Global) WalkError) (o : ℕ) (k : ASN1ErrorKind) → BlockFails (NoElements n m) r o k →
+    BlockLacks (AreElements n m) r
+lacks_elements n m (Ok bytes) o k x = x.none
+lacks_elements n m (Err f) o k x = malformed_not_external (λ at z. (at ≡ o) × (z ≡ k)) f x

@@ -19,8 +19,8 @@ texts lines = map (λ l. l.text.now) lines
 -- ---- the bytes of a block, or why it has none
 
 -- the place of the octet of a line at this index
-abbrev pub place_in : Line → ℕ → ℕ
-place_in line index = min (line.offset + index) (2 ^ 64 - 1)
+abbrev pub octet_place : Line → ℕ → ℕ
+octet_place line index = min (line.offset + index) (2 ^ 64 - 1)
 
 -- whether a text has an octet that is neither white space nor a digit of base64
 abbrev pub has_stray : List ℕ → Bool
@@ -31,7 +31,7 @@ abbrev pub first_stray : List ℕ → ℕ
 first_stray text = position_or_len (λ c. not (is_in_base64 c)) text
 
 abbrev pub stray_place : Option Line → ℕ → ℕ
-stray_place (Some line) end = place_in line (first_stray line.text.now)
+stray_place (Some line) end = octet_place line (first_stray line.text.now)
 stray_place None end = end
 
 -- the place of the first such octet of lines, or the end if there is none
@@ -80,6 +80,11 @@ BlockHolds P (Err f) = ⊥
 abbrev pub BlockLacks : (List ℕ → Type 0) → Result (Vec ℕ Global) WalkError → Type 0
 BlockLacks P (Ok bytes) = P bytes.items → ⊥
 BlockLacks P (Err f) = IsExternal f → ⊥
+
+-- why a block isn't what is awaited, at this offset and of this kind: Q says it of its bytes, or it has none for the error that it has
+abbrev pub BlockFails : (List ℕ → ℕ → ASN1ErrorKind → Type 0) → Result (Vec ℕ Global) WalkError → ℕ → ASN1ErrorKind → Type 0
+BlockFails Q (Ok bytes) offset kind = Q bytes.items offset kind
+BlockFails Q (Err f) offset kind = IsMalformed (λ at k. (at ≡ offset) × (k ≡ kind)) f
 
 -- ---- the reader
 

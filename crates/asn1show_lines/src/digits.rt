@@ -2,7 +2,7 @@
 ghost use Rattle.std.specs.Prelude.{◌≡◌, ◌++◌, ◌+◌, ◌^◌, ◌-◌, min, not, IfOk, IfErr, OnOk};
 ghost use Rattle.std.specs.List.{concat, position_or_len};
 ghost use Rattle.yasna_base.specs.declared.error.ASN1ErrorKind.TheVariants.{Invalid};
-ghost use Rattle.asn1show_lines.specs.Reader.{base64_place, first_stray, has_stray, place_in, texts, NoBase64};
+ghost use Rattle.asn1show_lines.specs.Reader.{base64_place, first_stray, has_stray, octet_place, texts, NoBase64};
 ghost use Rattle.asn1show_lines.specs.Text.{base64_of_text, digits_of, is_between, is_in_base64, is_in_hex, text_of, IsBase64, IsHex, IsNoHex, IsOutOfMemory};
 ghost use Rattle.asn1show_walk.specs.Errors.{IsMalformed, WalkFails};
 ghost use Rattle.asn1show_walk.specs.declared.error.WalkError.TheVariants.{Malformed};
@@ -148,7 +148,7 @@ fn expected_for_padding(error: DecodeError) -> Expected {
 
 // The error at the first octet of a line that is neither white space nor a digit of base64.
 fn malformed_line(line: &Line<'_>, error: DecodeError) -> WalkError
-    ensures { IsMalformed (λ offset kind. (offset ≡ place_in line.now (first_stray line.now.text.now)) × (kind ≡ Invalid)) result }
+    ensures { IsMalformed (λ offset kind. (offset ≡ octet_place line.now (first_stray line.now.text.now)) × (kind ≡ Invalid)) result }
 {
     let index = first_stray(line.text);
     let expected = match line.text.get(index) {

@@ -3,7 +3,7 @@ ghost use Rattle.std.specs.Prelude.{◌≡◌, ◌≢◌, ◌⊎◌, ◌≤◌, 
 ghost use Rattle.yasna_base.specs.Grammar.{max_depth};
 ghost use Rattle.yasna_base.specs.Raw.{IsRaw, IsJoining};
 ghost use Rattle.asn1show_lines.specs.Input.{IsTakenAs, HoldsElements, HoldsNone};
-ghost use Rattle.asn1show_lines.specs.Reader.{has_any, open_lines, BlockHolds, BlockLacks, GoesOn, IsFirstError, NeverComes};
+ghost use Rattle.asn1show_lines.specs.Reader.{has_any, open_lines, BlockFails, BlockHolds, GoesOn, IsFirstError, NeverComes};
 ghost use Rattle.asn1show_lines.specs.declared.input_format.InputFormat.{InputFormat};
 ghost use Rattle.asn1show_lines.specs.declared.input_format.InputFormat.TheVariants.{Bytes, Hex, Pem};
 ghost use Rattle.asn1show_walk.specs.Errors.{IsExternal, WalkFails};
@@ -77,7 +77,7 @@ fn show_block<W: Write>(
     block: &Block<'_>,
 ) -> Result<(), WalkError>
     ensures elements { OnOk result (BlockHolds (AreElements max_depth mode) block.now.bytes) }
-    ensures fails { IfErr result (λ f. WalkFails IsExternal (λ offset kind. BlockLacks (AreElements max_depth mode) block.now.bytes) f) }
+    ensures fails { IfErr result (λ f. WalkFails IsExternal (BlockFails (NoElements max_depth mode) block.now.bytes) f) }
 {
     let mut line = block_line(style.alloc, block.label);
     match &block.bytes {
@@ -120,7 +120,7 @@ fn show_whole_block<W: Write>(
     block: &Block<'_>,
 ) -> Result<(), WalkError>
     ensures elements { OnOk result (BlockHolds (AreElements max_depth mode) block.now.bytes) }
-    ensures fails { IfErr result (λ f. WalkFails IsExternal (λ offset kind. BlockLacks (AreElements max_depth mode) block.now.bytes) f) }
+    ensures fails { IfErr result (λ f. WalkFails IsExternal (BlockFails (NoElements max_depth mode) block.now.bytes) f) }
 {
     let shown = show_block(out, mode, style, block);
     if let Err(error) = shown {
