@@ -27,7 +27,7 @@ use Rattle.yasna_notation.specs.declared.choices.Either.TheVariants.{First, Seco
 use Rattle.yasna_notation.specs.Choices.{ReadsFound, sides}
 use Rattle.yasna_notation.specs.Notation.{IsNotation, ReadsAs}
 use Rattle.yasna_notation.proofs.OneTag.{any_read}
-use Rattle.yasna_notation_types.specs.OpenChoice.{EncodesAny, EncodesOther, is_other, any_begins, open_laws}
+use Rattle.yasna_notation_types.specs.OpenChoice.{EncodesRawElement, EncodesOther, is_other, any_begins, open_laws}
 
 repeats_seen : {A U : Type 0} (f : A → U) (s : Reading) (x : Result A ASN1Error) (s' : Reading) → RepeatsError s x s' → RepeatsError s (seen f x) s'
 repeats_seen f s (Ok v) s' h e failed = absurd (let x = (h e failed).0 in cc)
@@ -81,7 +81,7 @@ module _ {A : Type 0} {ts : List Tag} {E : A → A → Type 0} {B : Grammar A} {
 
   -- an element of another tag
   other_decodes : (t : Tag) → BeginsWithTag t s.left → list_any (is_tag t) ts ≡ false → (r : Result TaggedDerValue ASN1Error) (s' : Reading) →
-      Decodes true EncodesAny (Any IsRaw) s r s' → Decodes true (EncodesOther ts) (Any (EncodesOther ts)) s r s'
+      Decodes true EncodesRawElement (Any IsRaw) s r s' → Decodes true (EncodesOther ts) (Any (EncodesOther ts)) s r s'
   other_decodes t found none (Ok v) s' d =
       let there = subst (BeginsWithTag v.tag) (sym d.joined) (begins_with v.tag d.prefix d.rest (any_begins s.mode s.levels v d.prefix d.member)) in
       record {

@@ -34,8 +34,8 @@ use Rattle.yasna_reader.proofs.Tuples.{IsDecoder}
 use Rattle.yasna_notation.specs.Notation.{IsNotation}
 use Rattle.yasna_notation.proofs.Contents.{paired}
 use Rattle.yasna.proofs.Closures.{by_run}
-use Rattle.yasna_notation_types.specs.SetParts.{Pieced, PickOf, OptionPick, PickMaybe, AreSetParts, AreElements, goes_before, all_others, pick_once, others_without, tagged}
-use Rattle.yasna_notation_types.specs.SetReading.{bytes_of, AreFound, set_result, ReadsPicks, ReadsSetParts}
+use Rattle.yasna_notation_types.specs.SetParts.{Pieced, PickOf, OptionPick, PickMaybe, AreSetParts, AreSingleElements, tag_precedes, all_others, pick_once, others_without, tagged}
+use Rattle.yasna_notation_types.specs.SetReading.{encodings_of, AreFound, set_result, ReadsPicks, ReadsSetParts}
 
 -- an element was read to its end
 record ReadWhole {A : Type 0} (B : A → List ℕ → Type 0) (z : Reading) (v : A) (w : Reading) : Type 0 where
@@ -120,7 +120,7 @@ whole_at [] i x p h = absurd (omega (arith, p))
 whole_at (y ∷ l) zero x p h = ap (λ k. k ∷ l) (h y)
 whole_at (y ∷ l) (suc i) x p h = ap (λ k. y ∷ k) (whole_at l i x (omega (arith, p)) (λ d. h d))
 
-bytes_append : (a b : List SetElement) → bytes_of (a ++ b) ≡ bytes_of a ++ bytes_of b
+bytes_append : (a b : List SetElement) → encodings_of (a ++ b) ≡ encodings_of a ++ encodings_of b
 bytes_append [] b = refl
 bytes_append (x ∷ a) b = ap (λ k. x.bytes.now ∷ k) (bytes_append a b)
 
@@ -133,7 +133,7 @@ only_tag t u (zero, p, e) = e
 only_tag t u (suc k, p, e) = absurd (omega (arith, p))
 
 none_has : (t : Tag) (n : ℕ) (m : BERMode) (l : List SetElement) → ((k : ℕ) (d : SetElement) → 0 ≤ k → k < length l → IsAmong (t ∷ []) (slice_index_or l k d) → ⊥) →
-    AreFound n m l → AllByRecursion (λ b. BeginsWithTag t b → ⊥) (bytes_of l)
+    AreFound n m l → AllByRecursion (λ b. BeginsWithTag t b → ⊥) (encodings_of l)
 none_has t n m [] h f = tt
 none_has t n m (x ∷ l) h f = (
   λ b. h 0 x (omega arith) (omega arith) (0, omega arith, begins_once t x.tag x.bytes.now b (found_tag n m x f.0)),
@@ -145,8 +145,8 @@ record Chose {A : Type 0} (B : A → List ℕ → Type 0) (t : Tag) (c : SetRead
   prefix_before : List (List ℕ)
   one : List ℕ
   after : List (List ℕ)
-  whole : bytes_of c.list.items ≡ prefix_before ++ (one ∷ after)
-  others : bytes_of c'.list.items ≡ prefix_before ++ after
+  whole : encodings_of c.list.items ≡ prefix_before ++ (one ∷ after)
+  others : encodings_of c'.list.items ≡ prefix_before ++ after
   has_tag : BeginsWithTag t one
   encodes : B v one
   reader : c'.reader ≡ record c.reader { left = [] }
@@ -154,7 +154,7 @@ record Chose {A : Type 0} (B : A → List ℕ → Type 0) (t : Tag) (c : SetRead
 
 -- there is no element of the tag
 record ChoseNone (t : Tag) (c c' : SetReading) : Type 0 where
-  none : AllByRecursion (λ b. BeginsWithTag t b → ⊥) (bytes_of c.list.items)
+  none : AllByRecursion (λ b. BeginsWithTag t b → ⊥) (encodings_of c.list.items)
   others : c'.list.items ≡ c.list.items
   reader : c'.reader ≡ c.reader
 
@@ -163,7 +163,7 @@ record ChoseWrong (S : List ℕ → Type 0) (t : Tag) (c : SetReading) (e : ASN1
   prefix_before : List (List ℕ)
   one : List ℕ
   after : List (List ℕ)
-  whole : bytes_of c.list.items ≡ prefix_before ++ (one ∷ after)
+  whole : encodings_of c.list.items ≡ prefix_before ++ (one ∷ after)
   has_tag : BeginsWithTag t one
   none : (kind_of e ≡ OutOfMemory → ⊥) → S one → ⊥
   is_sticky : c'.reader.failed ≡ Some e
@@ -199,11 +199,11 @@ module _ {A : Type 0} {E : A → A → Type 0} {B : Grammar A} {S : Members} (la
       split = all_others (λ (x : SetElement). (v : RawValue) × IsElementOf c.reader.levels c.reader.mode x v) (take place l) element (drop (suc place) l)
           (subst (AreFound c.reader.levels c.reader.mode) l_is found)
 
-      whole_is : bytes_of l ≡ bytes_of (take place l) ++ (element.bytes.now ∷ bytes_of (drop (suc place) l))
-      whole_is = ap bytes_of l_is ∙ bytes_append (take place l) (element ∷ drop (suc place) l)
+      whole_is : encodings_of l ≡ encodings_of (take place l) ++ (element.bytes.now ∷ encodings_of (drop (suc place) l))
+      whole_is = ap encodings_of l_is ∙ bytes_append (take place l) (element ∷ drop (suc place) l)
 
-      others_are : bytes_of c'.list.items ≡ bytes_of (take place l) ++ bytes_of (drop (suc place) l)
-      others_are = ap bytes_of h.takes.others ∙ bytes_append (take place l) (drop (suc place) l)
+      others_are : encodings_of c'.list.items ≡ encodings_of (take place l) ++ encodings_of (drop (suc place) l)
+      others_are = ap encodings_of h.takes.others ∙ bytes_append (take place l) (drop (suc place) l)
 
       tag_is : BeginsWithTag t element.bytes.now
       tag_is =
@@ -221,9 +221,9 @@ module _ {A : Type 0} {E : A → A → Type 0} {B : Grammar A} {S : Members} (la
 
       by_own : (q : Result A ASN1Error) → SingleIs B S h.single q c'.reader → r ≡ some q → ChosenIs B S t c r c'
       by_own (Ok v) k e = subst (λ x. ChosenIs B S t c x c') (sym e) (record {
-        prefix_before = bytes_of (take place l);
+        prefix_before = encodings_of (take place l);
         one = element.bytes.now;
-        after = bytes_of (drop (suc place) l);
+        after = encodings_of (drop (suc place) l);
         whole = whole_is;
         others = others_are;
         has_tag = tag_is;
@@ -233,9 +233,9 @@ module _ {A : Type 0} {E : A → A → Type 0} {B : Grammar A} {S : Members} (la
         found = subst (AreFound c.reader.levels c.reader.mode) (sym h.takes.others) split.1;
       })
       by_own (Err d) k e = subst (λ x. ChosenIs B S t c x c') (sym e) (record {
-        prefix_before = bytes_of (take place l);
+        prefix_before = encodings_of (take place l);
         one = element.bytes.now;
-        after = bytes_of (drop (suc place) l);
+        after = encodings_of (drop (suc place) l);
         whole = whole_is;
         has_tag = tag_is;
         none = subst (λ (y : Reading). (kind_of d ≡ OutOfMemory → ⊥) → S y.mode y.levels y.left → ⊥) h.takes.state k.none;
@@ -289,8 +289,8 @@ pub chosen_under : {A : Type 0} (N : Does A) (t u : Tag) (c : SetReading) (r : R
 chosen_under N t u c r c' e h = subst (λ k. ReadsChosen N (k ∷ []) c r c') e h
 
 module _ {A V : Type 0} {t : Tag} {us : List Tag} {E : A → A → Type 0} {F : V → V → Type 0} {B : Grammar A} {C : Grammar V} {S M : Members}
-    {P : Pieced V} {f : Encoding A} {G : Fitting A} {can : A → Type 0} (x : IsNotation true (t ∷ []) E B S f G can) (whole : AreElements S)
-    (y : AreSetParts us F C P M) (above : goes_before t us ≡ true) (none : share_none (t ∷ []) us ≡ true) (may_allocate : Bool) (N : Does A)
+    {P : Pieced V} {f : Encoding A} {G : Fitting A} {can : A → Type 0} (x : IsNotation true (t ∷ []) E B S f G can) (whole : AreSingleElements S)
+    (y : AreSetParts us F C P M) (above : tag_precedes t us ≡ true) (none : share_none (t ∷ []) us ≡ true) (may_allocate : Bool) (N : Does A)
     (decoder : IsDecoder may_allocate B S N) (c : SetReading) (r : Result (Option A) ASN1Error) (c1 : SetReading) (h : ReadsChosen N (t ∷ []) c r c1) where
   abbrev m : BERMode
   m = c.reader.mode
@@ -299,7 +299,7 @@ module _ {A V : Type 0} {t : Tag} {us : List Tag} {E : A → A → Type 0} {F : 
   n = c.reader.levels
 
   abbrev ps : List (List ℕ)
-  ps = bytes_of c.list.items
+  ps = encodings_of c.list.items
 
   chosen : (q : Result (Option A) ASN1Error) → r ≡ q → IsFresh c.reader → AreFound n m c.list.items → ChosenIs B S t c q c1
   chosen q is fresh found = subst (λ k. ChosenIs B S t c k c1) is (chosen_is x.coding may_allocate N decoder t c c1 fresh found r h)
@@ -333,12 +333,12 @@ module _ {A V : Type 0} {t : Tag} {us : List Tag} {E : A → A → Type 0} {F : 
 
   -- what was read of the others
   after : (v : A) (r2 : Result V ASN1Error) (c2 : SetReading) → IsFresh c.reader → Chose (B m n) t c v c1 → ReadsSetParts P c1 r2 c2 →
-      ReadsPicks (P m n) (bytes_of c1.list.items) (set_result r2 c2)
+      ReadsPicks (P m n) (encodings_of c1.list.items) (set_result r2 c2)
   after v r2 c2 fresh k s =
       let is = k.reader in
       let now : IsFresh c1.reader = (ap (λ (z : Reading). z.failed) is ∙ fresh.0, ap (λ (z : Reading). z.tag) is ∙ fresh.1) in
       let there = subst (λ (z : Reading). AreFound z.levels z.mode c1.list.items) (sym is) k.found in
-      subst (λ (z : Reading). ReadsPicks (P z.mode z.levels) (bytes_of c1.list.items) (set_result r2 c2)) is (s.reads now there)
+      subst (λ (z : Reading). ReadsPicks (P z.mode z.levels) (encodings_of c1.list.items) (set_result r2 c2)) is (s.reads now there)
 
   after_none : (r2 : Result V ASN1Error) (c2 : SetReading) → IsFresh c.reader → AreFound n m c.list.items → ChoseNone t c c1 → ReadsSetParts P c1 r2 c2 →
       ReadsPicks (P m n) ps (set_result r2 c2)
@@ -346,10 +346,10 @@ module _ {A V : Type 0} {t : Tag} {us : List Tag} {E : A → A → Type 0} {F : 
       let is = k.reader in
       let now = subst IsFresh (sym is) fresh in
       let there = subst (λ (z : Reading). AreFound z.levels z.mode c1.list.items) (sym is) (subst (AreFound n m) (sym k.others) found) in
-      subst (λ l. ReadsPicks (P m n) (bytes_of l) (set_result r2 c2)) k.others
-      (subst (λ (z : Reading). ReadsPicks (P z.mode z.levels) (bytes_of c1.list.items) (set_result r2 c2)) is (s.reads now there))
+      subst (λ l. ReadsPicks (P m n) (encodings_of l) (set_result r2 c2)) k.others
+      (subst (λ (z : Reading). ReadsPicks (P z.mode z.levels) (encodings_of c1.list.items) (set_result r2 c2)) is (s.reads now there))
 
-  both : (v : A) (z : Result V ASN1Error) → Chose (B m n) t c v c1 → ReadsPicks (P m n) (bytes_of c1.list.items) z → ReadsPicks (PickOf B P m n) ps (paired v z)
+  both : (v : A) (z : Result V ASN1Error) → Chose (B m n) t c v c1 → ReadsPicks (P m n) (encodings_of c1.list.items) z → ReadsPicks (PickOf B P m n) ps (paired v z)
   both v (Ok w) k i = record {
     before = k.prefix_before;
     one = k.one;
@@ -391,7 +391,7 @@ module _ {A V : Type 0} {t : Tag} {us : List Tag} {E : A → A → Type 0} {F : 
   maybe_wrong e k q (Some v) w p = wrong_none e k q (v, w) p
   maybe_wrong e k q None w p = not_without w k.prefix_before k.one k.after k.whole k.has_tag p
 
-  maybe_both : (v : A) (z : Result V ASN1Error) → Chose (B m n) t c v c1 → ReadsPicks (P m n) (bytes_of c1.list.items) z →
+  maybe_both : (v : A) (z : Result V ASN1Error) → Chose (B m n) t c v c1 → ReadsPicks (P m n) (encodings_of c1.list.items) z →
       ReadsPicks (OptionPick B P m n) ps (paired (Some v) z)
   maybe_both v (Ok w) k i = both v (Ok w) k i
   maybe_both v (Err e) k i = λ q u p. by_part q u.0 u.1 p

@@ -36,7 +36,7 @@ use Rattle.yasna_notation.specs.Notation.{ReadsAs}
 use Rattle.yasna.proofs.Closures.{by_run}
 use Rattle.yasna_notation.proofs.OneTag.{one_tag_read}
 use Rattle.yasna_notation_types.specs.SetParts.{Pieced, SetOfParts, AreSetParts, all_so, members_each, set_contents}
-use Rattle.yasna_notation_types.specs.SetReading.{bytes_of, AreFound, set_result, ReadsPicks, ReadsSetParts}
+use Rattle.yasna_notation_types.specs.SetReading.{encodings_of, AreFound, set_result, ReadsPicks, ReadsSetParts}
 
 -- raw elements
 abbrev IsSome : BERMode → ℕ → List ℕ → Type 0
@@ -47,12 +47,12 @@ values_found n m [] vs e = tt
 values_found n m (x ∷ l) [] e = absurd e
 values_found n m (x ∷ l) (v ∷ vs) e = ((v, e.0), values_found n m l vs e.1)
 
-raws_found : (n : ℕ) (m : BERMode) (l : List SetElement) → AreFound n m l → AllByRecursion (IsSome m n) (bytes_of l)
+raws_found : (n : ℕ) (m : BERMode) (l : List SetElement) → AreFound n m l → AllByRecursion (IsSome m n) (encodings_of l)
 raws_found n m [] f = tt
 raws_found n m (x ∷ l) f = ((f.0.0, f.0.1.raw), raws_found n m l f.1)
 
 tags_begin : (n : ℕ) (m : BERMode) (l : List SetElement) (vs : List RawValue) → Each (IsElementOf n m) l vs →
-    Each BeginsWithTag (map (λ (v : RawValue). v.tag) vs) (bytes_of l)
+    Each BeginsWithTag (map (λ (v : RawValue). v.tag) vs) (encodings_of l)
 tags_begin n m [] [] e = tt
 tags_begin n m [] (v ∷ vs) e = absurd e
 tags_begin n m (x ∷ l) [] e = absurd e
@@ -129,18 +129,18 @@ module _ {V : Type 0} {ts : List Tag} {E : V → V → Type 0} {C : Grammar V} {
       found : AreFound n m l
       found = values_found n m l lists.0 lists.1.each
 
-      reads : ReadsPicks (P m n) (bytes_of l) (set_result h.run.own h.run.left)
+      reads : ReadsPicks (P m n) (encodings_of l) (set_result h.run.own h.run.left)
       reads = (obeys (record { reader = emptied s; list = h.found.list }) h.run.left h.run.own h.run.called).reads (refl, refl) found
 
       same : unless_failed s'.failed r ≡ set_result h.run.own h.run.left
       same = ap₂ (λ k q. unless_failed k q) (ap (λ (z : Reading). z.failed) h.state) h.returned
 
-      go : (q : Result V ASN1Error) → set_result h.run.own h.run.left ≡ q → ReadsPicks (P m n) (bytes_of l) q →
+      go : (q : Result V ASN1Error) → set_result h.run.own h.run.left ≡ q → ReadsPicks (P m n) (encodings_of l) q →
           DecodesContents true (SetOfParts P) (Any (SetOfParts P)) s q s'
       go (Ok v) is k =
           let none = result_unfailed h.run.left.reader.failed (all_taken h.run.own h.run.left.list.items) v is in
           let set : SetOfParts P m n v (elements_bytes l) = record {
-            pieces = bytes_of l;
+            pieces = encodings_of l;
             parts = k;
             order = record { tags = map (λ (w : RawValue). w.tag) lists.0; each = tags_begin n m l lists.0 lists.1.each; order = lists.1.contents.order };
             joined = refl;
@@ -157,7 +157,7 @@ module _ {V : Type 0} {ts : List Tag} {E : V → V → Type 0} {C : Grammar V} {
           }
       go (Err e) is k = record {
         none = λ q d x j i p.
-            let same = raws_same n m p.1.pieces (bytes_of l) x h.found.rest (part_raws p.0 d p.1) (raws_found n m l found) i lists.1.ends
+            let same = raws_same n m p.1.pieces (encodings_of l) x h.found.rest (part_raws p.0 d p.1) (raws_found n m l found) i lists.1.ends
             (ap (λ z. z ++ x) (sym p.1.joined) ∙ sym j ∙ lists.1.joined) in
             k q p.0 (subst (λ qs. P m n p.0 qs) same p.1.parts);
         memory = λ q. refl;

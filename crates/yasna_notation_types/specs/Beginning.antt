@@ -58,11 +58,11 @@ found t [] s x y = absurd y
 found t (u ∷ us) s x (inl y) = or_left (is_tag t u) (list_any (is_tag t) us) (is_itself t u (begins_once t u s x y))
 found t (u ∷ us) s x (inr y) = or_right (is_tag t u) (list_any (is_tag t) us) (found t us s x y)
 
-pub record Fails (a b : Bool) : Type 0 where
+pub record BothFalse (a b : Bool) : Type 0 where
   pub first : a ≡ false
   pub second : b ≡ false
 
-pub fails : (a b : Bool) → not (a || b) ≡ true → Fails a b
+pub fails : (a b : Bool) → not (a || b) ≡ true → BothFalse a b
 fails true b e = absurd (cc)
 fails false true e = absurd (cc)
 fails false false e = record { first = refl; second = refl }

@@ -23,14 +23,14 @@ use Rattle.yasna_base.proofs.ExplicitTags.{context_not_end}
 use Rattle.yasna_base.proofs.Raw.{raw_of}
 use Rattle.yasna_base.proofs.Segmented.{segmented_zero, segmented_into}
 use Rattle.yasna_notation.specs.Parts.{all_known, is_known}
-use Rattle.yasna_notation_types.specs.SetParts.{AreElements}
+use Rattle.yasna_notation_types.specs.SetParts.{AreSingleElements}
 
 -- each encoding is one element, under the type's own tag and under those that may be in place of it
 pub record AreElementsAs (retagged : Bool) (S : Option Tag → Members) : Type 0 where
-  pub own : AreElements (S None)
-  pub others : retagged ≡ true → AnyTag (λ t. AreElements (S (Some t)))
+  pub own : AreSingleElements (S None)
+  pub others : retagged ≡ true → AnyTag (λ t. AreSingleElements (S (Some t)))
 
-pub elements_lawful : (own : Tag) (S : Tag → Members) → AnyTag (λ t. AreElements (S t)) → (own ≡ end_tag → ⊥) → own.tag_number < 2 ^ 64 →
+pub elements_lawful : (own : Tag) (S : Tag → Members) → AnyTag (λ t. AreSingleElements (S t)) → (own ≡ end_tag → ⊥) → own.tag_number < 2 ^ 64 →
     AreElementsAs true (λ u. S (tag_or u own))
 elements_lawful own S all not_end range = record { own = all own not_end range; others = λ e. all }
 
@@ -52,7 +52,7 @@ no_zeros Der i = i
 no_zeros Cer i = i
 
 -- primitive types
-pub primitive_elements : {A : Type 0} (W : BERMode → A → List ℕ → Type 0) → AnyTag (λ t. AreElements (Any (Primitively W t)))
+pub primitive_elements : {A : Type 0} (W : BERMode → A → List ℕ → Type 0) → AnyTag (λ t. AreSingleElements (Any (Primitively W t)))
 primitive_elements W t not_end range m zero b p = absurd (omega (arith, p.1.level))
 primitive_elements W t not_end range m (suc n) b p = (
   record { tag = t; bit = Primitive; payload = p.1.contents },
@@ -68,7 +68,7 @@ zeros_bytes : IsBytes end_of_contents
 zeros_bytes = (omega arith, (omega arith, tt))
 
 -- elements whose contents are elements, one after the other
-pub enclosed_elements : (S : Members) → ((m : BERMode) (n : ℕ) (c : List ℕ) → S m n c → IsJoining (IsRaw m n) c) → AnyTag (λ t. AreElements (AnyEnclosed S t))
+pub enclosed_elements : (S : Members) → ((m : BERMode) (n : ℕ) (c : List ℕ) → S m n c → IsJoining (IsRaw m n) c) → AnyTag (λ t. AreSingleElements (AnyEnclosed S t))
 enclosed_elements S join t not_end range m zero b p = absurd p
 enclosed_elements S join t not_end range m (suc n) b p = frame p.element.framed
   where
@@ -93,13 +93,13 @@ enclosed_elements S join t not_end range m (suc n) b p = frame p.element.framed
     )
 
 -- one element is such contents
-pub one_joined : {S : Members} → AreElements S → (m : BERMode) (n : ℕ) (c : List ℕ) → S m n c → IsJoining (IsRaw m n) c
+pub one_joined : {S : Members} → AreSingleElements S → (m : BERMode) (n : ℕ) (c : List ℕ) → S m n c → IsJoining (IsRaw m n) c
 one_joined x m n c p =
     let v = x m n c p in
     (v.0 ∷ [], record { pieces = c ∷ []; each = (v.1, tt); joined = sym (append-nil c) })
 
 -- an EXPLICIT tag
-pub explicit_elements : {S : Members} → AreElements S → AnyTag (λ t. AreElements (AnyEnclosed S t))
+pub explicit_elements : {S : Members} → AreSingleElements S → AnyTag (λ t. AreSingleElements (AnyEnclosed S t))
 explicit_elements {S} x = enclosed_elements S (one_joined x)
 
 -- under [k] IMPLICIT
@@ -184,7 +184,7 @@ module _ {A : Type 0} (k : Segmentation A) (other : k.segment ≡ end_tag → �
   string_raw (suc n) m t not_end range v b p =
       level_raw n m t not_end range (λ u d q. string_raw n Ber k.segment other in_range u d q) v b (segmented_into k n m t v b p)
 
-  pub segmented_elements : AnyTag (λ t. AreElements (Any (IsSegmented k t)))
+  pub segmented_elements : AnyTag (λ t. AreSingleElements (Any (IsSegmented k t)))
   segmented_elements t not_end range m n b p = string_raw n m t not_end range p.0 b p.1
 
 -- contents that are elements, one after the other
@@ -194,13 +194,13 @@ AreJoined Q = (m : BERMode) (n : ℕ) (c : List ℕ) → Q m n c → IsJoining (
 pub nothing_joined : AreJoined AnyNothing
 nothing_joined m n c p = ([], record { pieces = []; each = tt; joined = p })
 
-pub part_joined : {S Q : Members} → AreElements S → AreJoined Q → AreJoined (AnyPart S Q)
+pub part_joined : {S Q : Members} → AreSingleElements S → AreJoined Q → AreJoined (AnyPart S Q)
 part_joined x y m n c p =
     let v = x m n p.prefix p.here in
     let w = y m n p.rest p.more in
     (v.0 ∷ w.0, record { pieces = p.prefix ∷ w.1.pieces; each = (v.1, w.1.each); joined = p.joined ∙ ap (λ r. p.prefix ++ r) w.1.joined })
 
-pub option_joined : {S Q : Members} → AreElements S → AreJoined Q → AreJoined (AnyPart (AnyOption S) Q)
+pub option_joined : {S Q : Members} → AreSingleElements S → AreJoined Q → AreJoined (AnyPart (AnyOption S) Q)
 option_joined {S} {Q} x y m n c p = by_prefix p.here
   where
     by_prefix : AnyOption S m n p.prefix → IsJoining (IsRaw m n) c
@@ -208,7 +208,7 @@ option_joined {S} {Q} x y m n c p = by_prefix p.here
     by_prefix (inr k) = let w = y m n p.rest p.more in
         (w.0, record { pieces = w.1.pieces; each = w.1.each; joined = p.joined ∙ ap (λ r. r ++ p.rest) k ∙ w.1.joined })
 
-pub elements_joined : {S : Members} → AreElements S → AreJoined (AnyElements S)
+pub elements_joined : {S : Members} → AreSingleElements S → AreJoined (AnyElements S)
 elements_joined {S} x m n c p = let w = all p.0 p.1.pieces p.1.each in (w.0, record { pieces = p.1.pieces; each = w.1; joined = p.1.joined })
   where
     all : (us : List (Unit {0})) (bs : List (List ℕ)) → Each (λ u. S m n) us bs → (ws : List RawValue) × Each (IsRaw m n) ws bs
@@ -218,20 +218,20 @@ elements_joined {S} x m n c p = let w = all p.0 p.1.pieces p.1.each in (w.0, rec
     all (u ∷ us) (b ∷ bs) e = let v = x m n b e.0 in let ws = all us bs e.1 in (v.0 ∷ ws.0, (v.1, ws.1))
 
 -- each of fewer encodings is one element
-pub fewer_elements : {A : Type 0} {B C : Grammar A} → ((m : BERMode) (n : ℕ) (v : A) (b : List ℕ) → C m n v b → B m n v b) → AreElements (Any B) →
-    AreElements (Any C)
+pub fewer_elements : {A : Type 0} {B C : Grammar A} → ((m : BERMode) (n : ℕ) (v : A) (b : List ℕ) → C m n v b → B m n v b) → AreSingleElements (Any B) →
+    AreSingleElements (Any C)
 fewer_elements f x m n b p = x m n b (p.0, f m n p.0 b p.1)
 
 -- each encoding of either is one element
-pub either_elements : {S Q : Members} → AreElements S → AreElements Q → AreElements (AnyEither S Q)
+pub either_elements : {S Q : Members} → AreSingleElements S → AreSingleElements Q → AreSingleElements (AnyEither S Q)
 either_elements x y m n b (inl p) = x m n b p
 either_elements x y m n b (inr p) = y m n b p
 
 -- parts that are unambiguous by their tags
-pub part_joins : {S Q : Members} {a b : Bool} → (a ≡ true → AreElements S) → (b ≡ true → AreJoined Q) → a && b ≡ true → AreJoined (AnyPart S Q)
+pub part_joins : {S Q : Members} {a b : Bool} → (a ≡ true → AreSingleElements S) → (b ≡ true → AreJoined Q) → a && b ≡ true → AreJoined (AnyPart S Q)
 part_joins {a = a} {b = b} x y e = let z = and_parts a b e in part_joined (x z.0) (y z.1)
 
-pub option_joins : {S Q : Members} {a b : Bool} (tags_known others none : Bool) → (a ≡ true → AreElements S) → (b ≡ true → AreJoined Q) →
+pub option_joins : {S Q : Members} {a b : Bool} (tags_known others none : Bool) → (a ≡ true → AreSingleElements S) → (b ≡ true → AreJoined Q) →
     all_known tags_known others none (a && b) ≡ true → AreJoined (AnyPart (AnyOption S) Q)
 option_joins {a = a} {b = b} tags_known others none x y e =
     let z = and_parts a b (is_known tags_known others none (a && b) e).all_unambiguous in

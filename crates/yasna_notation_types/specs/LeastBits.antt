@@ -37,12 +37,12 @@ bits_left v zero = 0
 bits_left v (suc i) = if nat_eq (bit_at v i) 1 then suc i else bits_left v i
 
 -- the string without the zero bits at its end
-abbrev pub trimmed : BitString → BitString
-trimmed v = record { bytes = take ((bits_left v v.count + 7) / 8) v.bytes; count = bits_left v v.count }
+abbrev pub without_zeros : BitString → BitString
+without_zeros v = record { bytes = take ((bits_left v v.count + 7) / 8) v.bytes; count = bits_left v v.count }
 
 -- that string with its unused bits cleared
 abbrev pub least : BitString → BitString
-least v = cleared (trimmed v)
+least v = cleared (without_zeros v)
 
 left_step : (b : Bool) (i k : ℕ) → k ≤ i → (if b then suc i else k) ≤ suc i
 left_step true i k l = omega arith
@@ -71,13 +71,13 @@ bytes_of_take (suc n) [] h = tt
 bytes_of_take (suc n) (x ∷ d) h = (h.0, bytes_of_take n d h.1)
 
 -- how many bytes the rest has
-size_left : (v : BitString) → CanBits v → length (trimmed v).bytes ≡ (bits_left v v.count + 7) / 8
+size_left : (v : BitString) → CanBits v → length (without_zeros v).bytes ≡ (bits_left v v.count + 7) / 8
 size_left v h =
     let below = left_below v v.count in
     length-take-le ((bits_left v v.count + 7) / 8) v.bytes (omega (arith, below, h.enough))
 
 -- if a string can be written, so can it without zeros at its end
-trim_can : (v : BitString) → CanBits v → CanBits (trimmed v)
+trim_can : (v : BitString) → CanBits v → CanBits (without_zeros v)
 trim_can v h =
     let below = left_below v v.count in
     let size = size_left v h in
@@ -109,7 +109,7 @@ least_same : (v : BitString) → AreCanonicalBits v → ends_in_one v ≡ true �
 least_same v h e =
     let count = left_all v v.count e in
     let whole = take_all ((bits_left v v.count + 7) / 8) v.bytes (omega (arith, count, h.can.least)) in
-    let trim : trimmed v ≡ v = ap₂ (λ d c. record { bytes = d; count = c }) whole count in
+    let trim : without_zeros v ≡ v = ap₂ (λ d c. record { bytes = d; count = c }) whole count in
     ap cleared trim ∙ ap (λ d. record { bytes = d; count = v.count }) (padded_same (unused_bits v) v.bytes h.zeros)
 
 -- the last byte, where unused bits are cleared
@@ -133,15 +133,15 @@ bit_same (suc (suc (suc (suc (suc (suc (suc zero))))))) x l = omega arith
 bit_same (suc (suc (suc (suc (suc (suc (suc (suc u)))))))) x l = absurd (omega (arith, l))
 
 -- the last bit that is left is the bit of the string at its place
-last_same : (v : BitString) → CanBits (trimmed v) → (j : ℕ) → bits_left v v.count ≡ suc j → last_bit (least v) ≡ bit_at v j
+last_same : (v : BitString) → CanBits (without_zeros v) → (j : ℕ) → bits_left v v.count ≡ suc j → last_bit (least v) ≡ bit_at v j
 last_same v h j is =
-    let d = (trimmed v).bytes in
+    let d = (without_zeros v).bytes in
     let n = (bits_left v v.count + 7) / 8 in
     let size : length d ≡ n = omega (arith, h.enough, h.least) in
     let at : (bits_left v v.count - 1) / 8 ≡ j / 8 = omega (arith, is) in
     let left : 7 - (bits_left v v.count - 1) % 8 ≡ 7 - j % 8 = omega (arith, is) in
-    let unused : unused_bits (trimmed v) ≡ 7 - j % 8 = omega (arith, is, size) in
-    let last = padded_last (unused_bits (trimmed v)) d (j / 8) (omega (arith, is, size)) in
+    let unused : unused_bits (without_zeros v) ≡ 7 - j % 8 = omega (arith, is, size) in
+    let last = padded_last (unused_bits (without_zeros v)) d (j / 8) (omega (arith, is, size)) in
     let same = get_or-take n v.bytes (j / 8) 0 (omega (arith, is)) in
     ap₂ (λ i w. (get_or (least v).bytes i 0 / 2 ^ w) % 2) at left
     ∙ ap (λ x. (x / 2 ^ (7 - j % 8)) % 2) (last ∙ ap₂ (λ x u. x - x % 2 ^ u) same unused)
@@ -151,7 +151,7 @@ one_is : (a : ℕ) → a ≡ 1 → nat_eq a 1 ≡ true
 one_is a e = ap (λ x. nat_eq x 1) e
 
 -- the least string ends in a one, or is empty
-least_ends : (v : BitString) → CanBits (trimmed v) → ends_in_one (least v) ≡ true
+least_ends : (v : BitString) → CanBits (without_zeros v) → ends_in_one (least v) ≡ true
 least_ends v h = by_count (bits_left v v.count) refl
   where
     by_last : (j : ℕ) → bits_left v v.count ≡ suc j → (bits_left v v.count ≡ 0) ⊎ (bit_at v (bits_left v v.count - 1) ≡ 1) → bit_at v j ≡ 1
@@ -189,13 +189,13 @@ abbrev pub least_depth : Depth BitString
 least_depth m v = bits_depth m (least v)
 
 abbrev pub CanLeast : BitString → Type 0
-CanLeast v = CanBits (trimmed v)
+CanLeast v = CanBits (without_zeros v)
 
 abbrev pub same_least : BitString → BitString → Type 0
 same_least v w = least v ≡ least w
 
 can_least : (v w : BitString) → same_least v w → CanLeast v → CanLeast w
-can_least v w e h = can_again (trimmed v) (trimmed w) e h
+can_least v w e h = can_again (without_zeros v) (without_zeros w) e h
 
 least_coding : (t : Tag) → IsCoding (λ v w. v ≡ w) (WithinMode ends_well (IsBits t)) (Any (WithinMode ends_well (IsBits t))) →
     IsCoding same_least (EncodesLeast t) (Any (WithinMode ends_well (IsBits t)))
@@ -226,12 +226,12 @@ module _ (t : Tag) (laws : BitLaws t) where
   least_holds : (m o : BERMode) (n : ℕ) (v : BitString) → HoldsEncoding m o → CanLeast v → least_depth m v ≤ n → length (least_encoding t m v) < 2 ^ 64 →
       EncodesLeast t o n v (least_encoding t m v)
   least_holds m o n v h can level short =
-      let c = (laws.cleared m (trimmed v) can).0 in
+      let c = (laws.cleared m (without_zeros v) can).0 in
       let e = least_ends v can in
       record { string = least v; encoded = laws.has.holds m o n (least v) h c level short; same = least_same (least v) c e; ends = every_end o (least v) e }
 
   least_bytes : (m : BERMode) (v : BitString) → CanLeast v → length (least_encoding t m v) < 2 ^ 64 → IsBytes (least_encoding t m v)
-  least_bytes m v can short = laws.has.in_bytes m (least v) (laws.cleared m (trimmed v) can).0 short
+  least_bytes m v can short = laws.has.in_bytes m (least v) (laws.cleared m (without_zeros v) can).0 short
 
 -- the law of writing: what BER reads is written without zeros at its end
 pub least_written : IsWrittenUnderTags same_least EncodesLeast least_encoding least_depth CanLeast

@@ -28,12 +28,12 @@ abbrev pub is_other : List Tag → Tag → Bool
 is_other ts t = share_none (t ∷ []) ts
 
 -- an element of any tag, as it came
-abbrev pub EncodesAny : Grammar TaggedDerValue
-EncodesAny m n v b = IsRaw m n (raw_of v) b
+abbrev pub EncodesRawElement : Grammar TaggedDerValue
+EncodesRawElement m n v b = IsRaw m n (raw_of v) b
 
 -- an element with another tag, as it came
 abbrev pub EncodesOther : List Tag → Grammar TaggedDerValue
-EncodesOther ts = Within (λ v. is_other ts v.tag) EncodesAny
+EncodesOther ts = Within (λ v. is_other ts v.tag) EncodesRawElement
 
 abbrev pub same_any : TaggedDerValue → TaggedDerValue → Type 0
 same_any v w = raw_of v ≡ raw_of w
@@ -44,7 +44,7 @@ any_encoding m v = raw_encoding (raw_of v).tag m (raw_of v)
 abbrev pub any_fits : Fitting TaggedDerValue
 any_fits m n v = raw_fits m n (raw_of v)
 
-pub any_lawful : NotationKeepsLaws false [] false same_any (λ u. EncodesAny) (λ u. Any IsRaw) (λ u m v. raw_encoding (tag_or u (raw_of v).tag) m (raw_of v))
+pub any_lawful : NotationKeepsLaws false [] false same_any (λ u. EncodesRawElement) (λ u. Any IsRaw) (λ u m v. raw_encoding (tag_or u (raw_of v).tag) m (raw_of v))
     any_fits Always
 any_lawful = record { own = any_laws; others = λ e. never_retagged e }
 
@@ -70,7 +70,7 @@ other_laws ts =
     record { coding = x.coding; begins = x.begins; exact = always x.exact }
 
 -- an element begins with its tag
-pub any_begins : (m : BERMode) (n : ℕ) (v : TaggedDerValue) (b : List ℕ) → EncodesAny m n v b → BeginsWithTag v.tag b
+pub any_begins : (m : BERMode) (n : ℕ) (v : TaggedDerValue) (b : List ℕ) → EncodesRawElement m n v b → BeginsWithTag v.tag b
 any_begins m n v b p = (raw_begins n m (raw_of v) b p).begins
 
 -- longer bytes begin with the same tag

@@ -82,9 +82,9 @@ pub record SetOfParts {V : Type 0} (P : Pieced V) (m : BERMode) (n : ℕ) (v : V
   pub joined : c ≡ concat pieces
 
 -- a tag comes before each of the others
-abbrev pub goes_before : Tag → List Tag → Bool
-goes_before t [] = true
-goes_before t (u ∷ us) = (is_lt (tag_cmp t u) && not (is_lt (tag_cmp u t))) && goes_before t us
+abbrev pub tag_precedes : Tag → List Tag → Bool
+tag_precedes t [] = true
+tag_precedes t (u ∷ us) = (is_lt (tag_cmp t u) && not (is_lt (tag_cmp u t))) && tag_precedes t us
 
 -- no tag comes before the one that precedes it
 abbrev pub Ascend : List Tag → Type 0
@@ -199,17 +199,17 @@ record After (t : Tag) (x : List ℕ) : Type 0 where
   after : (u : Tag) → BeginsWithTag u x → is_lt (tag_cmp t u) ≡ true
   not_before : (u : Tag) → BeginsWithTag u x → is_lt (tag_cmp u t) ≡ false
 
-after_of : (t : Tag) (ts : List Tag) (x : List ℕ) → goes_before t ts ≡ true → BeginsWithOne ts x → After t x
+after_of : (t : Tag) (ts : List Tag) (x : List ℕ) → tag_precedes t ts ≡ true → BeginsWithOne ts x → After t x
 after_of t [] x g b = absurd b
 after_of t (w ∷ ws) x g (inl b) =
-    let y = and_parts (is_lt (tag_cmp t w) && not (is_lt (tag_cmp w t))) (goes_before t ws) g in
+    let y = and_parts (is_lt (tag_cmp t w) && not (is_lt (tag_cmp w t))) (tag_precedes t ws) g in
     let z = and_parts (is_lt (tag_cmp t w)) (not (is_lt (tag_cmp w t))) y.0 in
     record {
       after = λ u c. subst (λ k. is_lt (tag_cmp t k) ≡ true) (begins_once w u x b c) z.0;
       not_before = λ u c. subst (λ k. is_lt (tag_cmp k t) ≡ false) (begins_once w u x b c) (not_true (is_lt (tag_cmp w t)) z.1);
     }
 after_of t (w ∷ ws) x g (inr b) =
-    after_of t ws x (and_parts (is_lt (tag_cmp t w) && not (is_lt (tag_cmp w t))) (goes_before t ws) g).1 b
+    after_of t ws x (and_parts (is_lt (tag_cmp t w) && not (is_lt (tag_cmp w t))) (tag_precedes t ws) g).1 b
 
 -- a tag and tags that ascend ascend, if it comes before the first
 ascend_first : (t : Tag) (us : List Tag) (ps : List (List ℕ)) → AllByRecursion (After t) ps → Each BeginsWithTag us ps → Ascend us → Ascend (t ∷ us)
@@ -252,7 +252,7 @@ one_tagged {ts = ts} {t = t} {E = E} {B = B} {S = S} {f = f} {G = G} {c = c} is 
 module _ {A V : Type 0} {t : Tag} {us : List Tag} {E : A → A → Type 0} {F : V → V → Type 0} {B : Grammar A} {C : Grammar V} {S M : Members}
     {P : Pieced V} {f : Encoding A} {G : Fitting A} {c : A → Type 0} (x : IsNotation true (t ∷ []) E B S f G c)
     (whole : (m : BERMode) (n : ℕ) (b : List ℕ) → S m n b → (v : RawValue) × IsRaw m n v b) (y : AreSetParts us F C P M)
-    (above : goes_before t us ≡ true) (none : share_none (t ∷ []) us ≡ true) where
+    (above : tag_precedes t us ≡ true) (none : share_none (t ∷ []) us ≡ true) where
   has_tag : (m : BERMode) (n : ℕ) (b : List ℕ) → S m n b → BeginsWithTag t b
   has_tag m n b p = by_one ((x.begins refl).at m n b p)
     where
@@ -483,8 +483,8 @@ module _ {V : Type 0} {ts : List Tag} {E : V → V → Type 0} {C : Grammar V} {
   }
 
 -- each encoding is one element
-abbrev pub AreElements : Members → Type 0
-AreElements S = (m : BERMode) (n : ℕ) (b : List ℕ) → S m n b → (v : RawValue) × IsRaw m n v b
+abbrev pub AreSingleElements : Members → Type 0
+AreSingleElements S = (m : BERMode) (n : ℕ) (b : List ℕ) → S m n b → (v : RawValue) × IsRaw m n v b
 
 -- what the test of the tags of a SET says
 pub record SetKnown (above none a b : Bool) : Type 0 where
@@ -502,16 +502,16 @@ set_known above none a b e =
 
 module _ {A V : Type 0} {tags_known : Bool} {ts : List Tag} {t : Tag} {us : List Tag} {E : A → A → Type 0} {F : V → V → Type 0} {B : Grammar A}
     {C : Grammar V} {S M : Members} {P : Pieced V} {f : Encoding A} {G : Fitting A} {c : A → Type 0} {a b : Bool} (is_known : tags_known ≡ true) (one : ts ≡ t ∷ [])
-    (first : a ≡ true → IsNotation tags_known ts E B S f G c) (whole : a ≡ true → AreElements S) (rest : b ≡ true → AreSetParts us F C P M)
-    (unambiguous : goes_before t us && (share_none (t ∷ []) us && (a && b)) ≡ true) where
+    (first : a ≡ true → IsNotation tags_known ts E B S f G c) (whole : a ≡ true → AreSingleElements S) (rest : b ≡ true → AreSetParts us F C P M)
+    (unambiguous : tag_precedes t us && (share_none (t ∷ []) us && (a && b)) ≡ true) where
   pub set_part_laws : AreSetParts (t ∷ us) (SamePart E F) (PartOf B C) (PickOf B P) (AnyEither S M)
   set_part_laws =
-      let z = set_known (goes_before t us) (share_none (t ∷ []) us) a b unambiguous in
+      let z = set_known (tag_precedes t us) (share_none (t ∷ []) us) a b unambiguous in
       set_part (one_tagged is_known one (first z.first_unambiguous)) (whole z.first_unambiguous) (rest z.others_unambiguous) z.after z.none_shared
 
   pub set_option_laws : AreSetParts (t ∷ us) (SamePart (SameOption E) F) (PartOf (OptionOf B) C) (OptionPick B P) (AnyEither S M)
   set_option_laws =
-      let z = set_known (goes_before t us) (share_none (t ∷ []) us) a b unambiguous in
+      let z = set_known (tag_precedes t us) (share_none (t ∷ []) us) a b unambiguous in
       set_option (one_tagged is_known one (first z.first_unambiguous)) (whole z.first_unambiguous) (rest z.others_unambiguous) z.after z.none_shared
 
 -- the laws of a SET of parts, under any tag

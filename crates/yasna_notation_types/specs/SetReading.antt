@@ -15,8 +15,8 @@ use Rattle.yasna_reader.specs.State.{IsFresh}
 use Rattle.yasna_notation_types.specs.SetParts.{Pieced}
 
 -- the bytes of elements
-abbrev pub bytes_of : List SetElement → List (List ℕ)
-bytes_of l = map (λ (x : SetElement). x.bytes.now) l
+abbrev pub encodings_of : List SetElement → List (List ℕ)
+encodings_of l = map (λ (x : SetElement). x.bytes.now) l
 
 -- each element has the tag and the bytes of a raw value
 abbrev pub AreFound : ℕ → BERMode → List SetElement → Type 0
@@ -34,4 +34,4 @@ ReadsPicks {V} P ps (Err e) = (kind_of e ≡ OutOfMemory → ⊥) → (v : V) �
 -- what reading parts from the elements does, as the result of the whole SET
 pub record ReadsSetParts {V : Type 0} (P : Pieced V) (c : SetReading) (r : Result V ASN1Error) (c' : SetReading) : Type 0 where
   pub reads : IsFresh c.reader → AreFound c.reader.levels c.reader.mode c.list.items →
-      ReadsPicks (P c.reader.mode c.reader.levels) (bytes_of c.list.items) (set_result r c')
+      ReadsPicks (P c.reader.mode c.reader.levels) (encodings_of c.list.items) (set_result r c')

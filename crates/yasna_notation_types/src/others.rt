@@ -13,7 +13,7 @@ ghost use Rattle.yasna_base.specs.SequenceOf.{ElementsOf, AnyElements, elements_
 ghost use Rattle.yasna_reader.specs.State.{part_of};
 ghost use Rattle.yasna_writer.specs.View.{WroteParts};
 ghost use Rattle.yasna_notation_types.specs.Beginning.{none_may, first_may, possible_begins};
-ghost use Rattle.yasna_notation_types.specs.OpenChoice.{EncodesAny, is_other, same_any, any_encoding, any_fits, any_lawful};
+ghost use Rattle.yasna_notation_types.specs.OpenChoice.{EncodesRawElement, is_other, same_any, any_encoding, any_fits, any_lawful};
 ghost use Rattle.yasna_notation_types.specs.Others.{OthersOf, AnyOthers, others_fit, other_may, others_laws, others_within, possible_laws, LooksFor};
 
 use crate::beginning::Beginning;
@@ -43,7 +43,7 @@ impl<X: Notation> Parts for Others<X> {
 
     ghost unambiguous = { is_other X.means.tags end_tag };
 
-    ghost parts = { OthersOf X.means.tags (λ m n v c. ElementsOf EncodesAny m n v.items c) };
+    ghost parts = { OthersOf X.means.tags (λ m n v c. ElementsOf EncodesRawElement m n v.items c) };
 
     ghost any_parts = { AnyOthers X.means.tags (AnyElements (Any IsRaw)) };
 

@@ -13,7 +13,7 @@ ghost use Rattle.yasna_base.specs.Set.{set_tag};
 ghost use Rattle.yasna_writer.specs.View.{Writes};
 ghost use Rattle.yasna_notation.specs.Laws.{element_non_empty};
 ghost use Rattle.yasna_notation.specs.Parts.{WrittenAlike};
-ghost use Rattle.yasna_notation_types.specs.SetParts.{Pieced, PickOf, OptionPick, NoPick, NoMembers, SetOfParts, AreSetParts, goes_before, no_set_parts, set_part_laws, set_option_laws, set_lawful_of, set_writes_of};
+ghost use Rattle.yasna_notation_types.specs.SetParts.{Pieced, PickOf, OptionPick, NoPick, NoMembers, SetOfParts, AreSetParts, tag_precedes, no_set_parts, set_part_laws, set_option_laws, set_lawful_of, set_writes_of};
 ghost use Rattle.yasna_notation_types.specs.SetReading.{ReadsSetParts};
 
 use crate::elements::OneElement;
@@ -73,7 +73,7 @@ impl<A: OneElement, W: SetParts> SetParts for (A, W) {
 
     ghost picks = { PickOf (A.means.under None) W.picks };
 
-    ghost set_unambiguous = { (goes_before A.tag W.set_tags && (share_none (A.tag ∷ []) W.set_tags && (A.unambiguous && W.set_unambiguous))) };
+    ghost set_unambiguous = { (tag_precedes A.tag W.set_tags && (share_none (A.tag ∷ []) W.set_tags && (A.unambiguous && W.set_unambiguous))) };
 
     #[inline(always)]
     fn read_set_parts(set: &mut BERReaderSet) -> ASN1Result<(A::Value, W::Values)> {
@@ -102,7 +102,7 @@ impl<A: OneElement, W: SetParts> SetParts for (Optional<A>, W) {
 
     ghost picks = { OptionPick (A.means.under None) W.picks };
 
-    ghost set_unambiguous = { (goes_before A.tag W.set_tags && (share_none (A.tag ∷ []) W.set_tags && (A.unambiguous && W.set_unambiguous))) };
+    ghost set_unambiguous = { (tag_precedes A.tag W.set_tags && (share_none (A.tag ∷ []) W.set_tags && (A.unambiguous && W.set_unambiguous))) };
 
     #[inline(always)]
     fn read_set_parts(set: &mut BERReaderSet) -> ASN1Result<(Option<A::Value>, W::Values)> {

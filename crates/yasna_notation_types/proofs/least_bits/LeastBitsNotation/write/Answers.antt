@@ -3,7 +3,7 @@ use Rattle.yasna_base.specs.Bits.{BitString, bits_encoding, bits_tag}
 use Rattle.yasna_base.specs.Identifier.{tag_or}
 use Rattle.yasna_bytes.specs.Segments.{bits_in}
 use Rattle.yasna_writer.specs.View.{Writes}
-use Rattle.yasna_notation_types.specs.LeastBits.{bits_left, trimmed}
+use Rattle.yasna_notation_types.specs.LeastBits.{bits_left, without_zeros}
 use Rattle.yasna_notation_types.specs.PlainBits.{plain_is}
 use Rattle.yasna_notation_types.proofs.least_bits.LeastBitsNotation.write.Goals as goal
 
@@ -19,6 +19,6 @@ returns c =
     c.bits_left-count.ensures ∙ ap (λ (d : List ℕ). bits_left (record { bytes = d; count = v.count }) v.count) whole in
     let size : c.div_ceil-size.result ≡ (bits_left v v.count + 7) / 8 = search rules in
     let w : BitString = record { bytes = take c.div_ceil-size.result c.as_slice-bytes.result.now; count = c.bits_left-count.result } in
-    let is : w ≡ trimmed v = ap₂ (λ (d : List ℕ) (k : ℕ). record { bytes = d; count = k }) (ap₂ (λ (n : ℕ) (d : List ℕ). take n d) size whole) count in
+    let is : w ≡ without_zeros v = ap₂ (λ (d : List ℕ) (k : ℕ). record { bytes = d; count = k }) (ap₂ (λ (n : ℕ) (d : List ℕ). take n d) size whole) count in
     let wrote : Writes (bits_encoding t old.mode w) old new r = search rules in
-    subst (λ b. Writes b old new r) (ap (bits_encoding t old.mode) is ∙ plain_is t old.mode (trimmed v) c.requires) wrote
+    subst (λ b. Writes b old new r) (ap (bits_encoding t old.mode) is ∙ plain_is t old.mode (without_zeros v) c.requires) wrote

@@ -2,7 +2,7 @@ use Rattle.std.proofs.Common.{◌∷◌, [], Ok, Err, rules, subst}
 use Rattle.yasna_base.specs.Beginnings.{share_none}
 use Rattle.yasna_notation.specs.Notation.{ReadsAs}
 use Rattle.yasna_notation.proofs.Enclosing.{value_by}
-use Rattle.yasna_notation_types.specs.SetParts.{goes_before, set_known, one_tagged}
+use Rattle.yasna_notation_types.specs.SetParts.{tag_precedes, set_known, one_tagged}
 use Rattle.yasna_notation_types.specs.SetReading.{ReadsSetParts}
 use Rattle.yasna_notation_types.proofs.SetReading.{chosen_called, chosen_under, option_wrong, option_read}
 use Rattle.yasna_notation_types.proofs.set_parts.Tuple2OptionalSetParts.read_set_parts.Goals as goal
@@ -12,7 +12,7 @@ returns-in-Err g c =
     let n = g.A.Notation.means in
     let t = g.A.OneElement.tag in
     let us = g.W.SetParts.set_tags in
-    let tags_known = set_known (goes_before t us) (share_none (t ∷ []) us) g.A.Notation.unambiguous g.W.SetParts.set_unambiguous c.requires in
+    let tags_known = set_known (tag_precedes t us) (share_none (t ∷ []) us) g.A.Notation.unambiguous g.W.SetParts.set_unambiguous c.requires in
     let x = one_tagged {t = t} g.met.A.OneElement.is_known g.met.A.OneElement.one_tag (g.met.A.Notation.lawful tags_known.first_unambiguous).own in
     let whole = (g.met.A.Elements.elements tags_known.first_unambiguous).own in
     let y = g.met.W.SetParts.set_laws tags_known.others_unambiguous in
@@ -29,7 +29,7 @@ returns-in-Err-read_set_parts g c =
     let n = g.A.Notation.means in
     let t = g.A.OneElement.tag in
     let us = g.W.SetParts.set_tags in
-    let tags_known = set_known (goes_before t us) (share_none (t ∷ []) us) g.A.Notation.unambiguous g.W.SetParts.set_unambiguous c.requires in
+    let tags_known = set_known (tag_precedes t us) (share_none (t ∷ []) us) g.A.Notation.unambiguous g.W.SetParts.set_unambiguous c.requires in
     let x = one_tagged {t = t} g.met.A.OneElement.is_known g.met.A.OneElement.one_tag (g.met.A.Notation.lawful tags_known.first_unambiguous).own in
     let whole = (g.met.A.Elements.elements tags_known.first_unambiguous).own in
     let y = g.met.W.SetParts.set_laws tags_known.others_unambiguous in
@@ -49,7 +49,7 @@ returns g c =
     let n = g.A.Notation.means in
     let t = g.A.OneElement.tag in
     let us = g.W.SetParts.set_tags in
-    let tags_known = set_known (goes_before t us) (share_none (t ∷ []) us) g.A.Notation.unambiguous g.W.SetParts.set_unambiguous c.requires in
+    let tags_known = set_known (tag_precedes t us) (share_none (t ∷ []) us) g.A.Notation.unambiguous g.W.SetParts.set_unambiguous c.requires in
     let x = one_tagged {t = t} g.met.A.OneElement.is_known g.met.A.OneElement.one_tag (g.met.A.Notation.lawful tags_known.first_unambiguous).own in
     let whole = (g.met.A.Elements.elements tags_known.first_unambiguous).own in
     let y = g.met.W.SetParts.set_laws tags_known.others_unambiguous in
