@@ -12,7 +12,7 @@ use Rattle.yasna_reader.specs.declared.callback.Outcome.TheVariants.{Matched, No
 use Rattle.yasna_reader.specs.Buffer.{Buffered}
 use Rattle.yasna_reader.specs.Callback.{ComesTo, Barred, BarredBy, Hands, Lent, Regains, ErrorCause, WithSome, advanced_as, at_cursor, sticky, before, own}
 use Rattle.yasna_reader.specs.Sequence.{place_in}
-use Rattle.yasna_reader.specs.State.{Reading, Does, failing, untagged}
+use Rattle.yasna_reader.specs.State.{Reading, Does, failing}
 
 -- where there is no going on, that is what a callback came to
 pub barred_fails : {A : Type 0} (s : Reading) (x : Result A ASN1Error) (m : Reading) (e : ASN1Error) (s' : Reading) → Barred s m (Some e) s' →
@@ -101,21 +101,6 @@ pub barred_regains : {A : Type 0} (x : Result A ASN1Error) (m s : Reading) (e : 
     s' ≡ failing (advanced_as s m) e → Regains x m s (Failed e) s'
 barred_regains x m s e s' (inl k) f = (sticky k, f)
 barred_regains x m s e s' (inr h) f = (before h.0 h.1 h.2, f)
-
--- where no tag waits, a callback without a match left the reading as it was
-no_match_stays : {A : Type 0} (s : Reading) (x : Result A ASN1Error) (m : Reading) (e : ASN1Error) (s' : Reading) → s.failed ≡ None →
-    ComesTo (untagged s) x m (NoMatch e) s' → s' ≡ untagged s
-no_match_stays s x m e s' k h =
-    h.4 ∙ ap {A = List ℕ} {B = Reading} (λ l. record s { left = l; tag = None; failed = None }) (place_unconsumed s.left m.left h.1)
-    ∙ ap {A = Option ASN1Error} {B = Reading} (λ u. record s { tag = None; failed = u }) (sym k)
-
--- a reading that was lent with no tag that waits was handed
-pub lent_hands : {A : Type 0} (P : Does A) (s : Reading) (o : Outcome A) (s' : Reading) → s.failed ≡ None →
-    Lent P (untagged s) (untagged s) o s' → Hands P (untagged s) o s'
-lent_hands P s (Matched v) s' k h = subst (λ z. Hands P (untagged s) (Matched v) z) (sym h.state) h.hands
-lent_hands P s (NoMatch e) s' k h =
-    subst (λ z. Hands P (untagged s) (NoMatch e) z) (no_match_stays s h.hands.own h.hands.left e h.between k h.hands.comes ∙ sym h.state) h.hands
-lent_hands P s (Failed e) s' k h = subst (λ z. Hands P (untagged s) (Failed e) z) (sym h.state) h.hands
 
 after : {A : Type 0} (P : Does A) (z s : Reading) (o : Outcome A) (b s' : Reading) → z.left ≡ s.left →
     Hands P z o b → s' ≡ b → (taken : List ℕ) × (s.left ≡ taken ++ s'.left)

@@ -1,8 +1,9 @@
 //! How a reading is handed to a callback and taken back, for the calls with callbacks: `optional`, `set_optional`, `tagged`,
 //! `buffer` and `sequence_of`.
 //!
-//! Of the reading that a callback left, only its sticky error counts, and the number of bytes that are left. Where a part may be
-//! omitted, the callback is lent a copy: the reading stays as it is where there is no match, and may be in registers meanwhile.
+//! Of the reading that a callback left, only its sticky error counts, and the number of bytes that are left. A callback under an
+//! implicit tag, or whose bytes are returned too, is lent a copy: the reading stays as it is where there is no match, with the tag that
+//! waited.
 ghost use Rattle.std.specs.Prelude.{IsTrue, ◌↔◌, ◌≡◌, length};
 ghost use Rattle.yasna_bytes.specs.Rejection.{BlamesBytes};
 
@@ -38,7 +39,7 @@ impl<'a> ReaderState<'a> {
     ghost use Rattle.std.specs.Fn.{FnOnceTakesAtMut, FnOnceReturnsAtMut};
     ghost use Rattle.yasna_base.specs.Error.{kind_of};
     ghost use Rattle.yasna_reader.specs.Callback.{ConsumedNothing, ComesTo, Barred, BarredBy, Hands, Lent, FailsAs, Regains, WithSome, at_cursor, advanced_as};
-    ghost use Rattle.yasna_reader.specs.State.{failing, untagged};
+    ghost use Rattle.yasna_reader.specs.State.{failing};
 
     // Hands this reading to a callback, and takes it back.
     #[inline(always)]
@@ -145,20 +146,6 @@ impl<'a> ReaderState<'a> {
             self.set_place(lent.place_of_error(), lent.deeper);
         }
         self.fail_outcome(error)
-    }
-
-    // Lends a callback a copy of this reading, for which no tag waits.
-    #[inline(always)]
-    #[tactic(auto, using(crate::proofs::Callbacks::lent_hands))]
-    pub(crate) fn hand_untagged<T: Drop, F>(&mut self, f: F) -> Outcome<T>
-    where
-        F: FnOnce(BERReader<'a, '_>) -> ASN1Result<T>,
-        requires failed { self.old.failed ≡ None }
-        requires may { FnOnceTakesAtMut F.FnOnce f (untagged self.old) }
-        ensures { Hands (FnOnceReturnsAtMut F.FnOnce f) (untagged self.old) result self.new }
-    {
-        self.untag();
-        self.hand_under(None, f)
     }
 
     // The outcome of a callback that began at this place and returned this result, which is tested first, as in `leave`. The reading

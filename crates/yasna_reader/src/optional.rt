@@ -88,7 +88,8 @@ impl<'a> PartsReader<ReaderState<'a>> {
         if let Some(error) = reader.failed {
             return Err(error);
         }
-        let value = match reader.hand_untagged(f) {
+        reader.untag();
+        let value = match reader.hand(f) {
             Outcome::Matched(value) => value,
             Outcome::NoMatch(_) => return Ok(None),
             Outcome::Failed(error) => return Err(error),
@@ -110,8 +111,9 @@ impl<'a> PartsReader<ReaderState<'a>> {
         if let Some(error) = reader.failed {
             return Err(error);
         }
+        reader.untag();
         let before = reader.cursor.left.len();
-        let outcome = reader.hand_untagged(f);
+        let outcome = reader.hand(f);
         reader.or_default(before, outcome, default)
     }
 }
