@@ -12,6 +12,7 @@ pub mod KnownLengths
 pub mod Lengths
 pub mod Padding
 pub mod PartByPart
+pub mod PartOrders
 pub mod Prepends
 pub mod Primitives
 pub mod Puts

@@ -10,8 +10,7 @@ use Rattle.yasna_base.specs.declared.tag.Tag.{Tag}
 use Rattle.yasna_base.specs.Canonical.{canonical_element}
 use Rattle.yasna_base.specs.Order.{octets_cmp, in_order}
 use Rattle.yasna_base.specs.Set.{SetOfContents}
-use Rattle.yasna_writer.specs.declared.ordered_part.OrderedPart.{OrderedPart}
-use Rattle.yasna_writer.specs.Parts.{WrittenParts, only_part, last_part, bytes_each, ordered_bytes}
+use Rattle.yasna_writer.specs.Parts.{WrittenParts, only_part, last_part, bytes_each}
 use Rattle.yasna_writer.specs.Set.{EndsPart, LosesParts, BeginsNext, EndsSet}
 use Rattle.yasna_writer.specs.View.{Written, begun}
 
@@ -49,11 +48,11 @@ not_set_of vs ps e not_all c h =
     not_all (all_unmap (λ (v : Vec ℕ Global). v.items) (λ b. b ≡ [] → ⊥) vs (subst (λ z. AllByRecursion (λ b. b ≡ [] → ⊥) z) (sym e) h.non_empty))
 
 -- parts in order make the contents of a SET OF
-pub set_of_contents : (vs : List (Vec ℕ Global)) (ws : List OrderedPart) (ps : List (List ℕ)) → bytes_each vs ≡ ps → AllByRecursion (λ v. v.items ≡ [] → ⊥) vs →
-    ordered_bytes ws ≡ in_order octets_cmp (bytes_each vs) → SetOfContents ps (flat_map (λ (p : OrderedPart). p.bytes.items) ws)
-set_of_contents vs ws ps e all f = record {
+pub set_of_contents : (vs : List (Vec ℕ Global)) (ps : List (List ℕ)) → bytes_each vs ≡ ps → AllByRecursion (λ v. v.items ≡ [] → ⊥) vs →
+    SetOfContents ps (concat (in_order octets_cmp (bytes_each vs)))
+set_of_contents vs ps e all = record {
   non_empty = subst (λ z. AllByRecursion (λ b. b ≡ [] → ⊥) z) e (all_map (λ (v : Vec ℕ Global). v.items) (λ b. b ≡ [] → ⊥) vs all);
-  joined = flat_concat (λ (p : OrderedPart). p.bytes.items) ws ∙ ap concat (f ∙ ap (in_order octets_cmp) e);
+  joined = ap (λ bs. concat (in_order octets_cmp bs)) e;
 }
 
 pub is_not : (b : Bool) → b ≡ false → b ≡ true → ⊥

@@ -4,6 +4,7 @@ pub mod Identifier
 pub mod Put
 pub mod Header
 pub mod Prepend
+pub mod PartOrder
 pub mod Integer
 pub mod Bmp
 pub mod Segments

@@ -18,8 +18,8 @@ pub record WrittenParts : Type 0 where
   pub failed : Option ASN1Error
 
 -- a set that begins
-abbrev pub no_parts : BERMode → WrittenParts
-no_parts m = record { parts = []; mode = m; failed = None }
+abbrev pub begun_set : BERMode → WrittenParts
+begun_set m = record { parts = []; mode = m; failed = None }
 
 -- a set whose only part is this writing
 abbrev pub only_part : Written → WrittenParts
@@ -44,4 +44,4 @@ parts_of ps = map set_part_of ps
 
 -- the bytes of each part after the number of its first ones
 abbrev pub ordered_bytes : List OrderedPart → List (List ℕ)
-ordered_bytes ps = map (λ (p : OrderedPart). p.bytes.items) ps
+ordered_bytes ps = map (λ (p : OrderedPart). p.bytes.now) ps

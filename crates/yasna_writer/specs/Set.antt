@@ -13,7 +13,7 @@ use Rattle.yasna_writer.specs.Sequence.{ReturnsSticky, ReturnsOnly}
 use Rattle.yasna_writer.specs.declared.set.PartOrder.{PartOrder}
 use Rattle.yasna_writer.specs.declared.set.PartOrder.TheVariants.{Bytes, Tags}
 use Rattle.yasna_writer.specs.declared.tagged_part.TaggedPart.{TaggedPart}
-use Rattle.yasna_writer.specs.Parts.{WrittenParts, no_parts, bytes_each, last_part, parts_of}
+use Rattle.yasna_writer.specs.Parts.{WrittenParts, begun_set, bytes_each, last_part, parts_of}
 use Rattle.yasna_writer.specs.View.{Written, holding}
 use Rattle.yasna_writer.specs.contracts.set.DERWriterSet.{the_row}
 use Rattle.yasna_writer.specs.contracts.state.Writer.{the_row as writer_row}
@@ -101,7 +101,7 @@ pub record WroteSet {F T E : Type 0} (g : Once F (MutBor WrittenParts × Unit {0
   -- the parts that it left
   pub left : WrittenParts
   -- it was handed no parts
-  pub ran : FnOnceReturnsAtMut g f (no_parts old.mode) own left
+  pub ran : FnOnceReturnsAtMut g f (begun_set old.mode) own left
   -- encoding of the contents that the parts make was written, or an error is sticky
   pub ends : EndsSet Contents encoding left old new
   -- that error is returned, else the closure's result, an Err too

@@ -28,6 +28,7 @@
 //! | `integer` | the fewest bytes of a number |
 //! | `prepend_buffer` | a buffer that grows at its front, into which values are written from their last byte to their first |
 //! | `prepend`, `prepend_strings` | the elements that are prepended to it |
+//! | `order_parts` | the parts of a SET OF in it, put in order |
 //! | `encoded_len` | the length of an encoding, without making it |
 #![tactic(auto)]
 
@@ -41,6 +42,7 @@ mod integer;
 mod join;
 mod length;
 mod oid;
+mod order_parts;
 mod ordered_part;
 mod prepend;
 mod prepend_buffer;

@@ -1,4 +1,4 @@
-//! The parts of a SET OF, in the order of their bytes (X.690, 11.6), for `set`.
+//! The parts of a SET OF, in the order of their bytes (X.690, 11.6), for `set` and `order_parts`.
 ghost use Rattle.std.specs.Prelude.{◌≡◌};
 ghost use Rattle.yasna_base.specs.Order.{octets_cmp};
 ghost use Rattle.yasna_writer.specs.SortKey.{IsFirstEight};
@@ -12,18 +12,18 @@ const KEY_LENGTH: usize = 8;
 /// A part of a SET OF, after a sort key, which is the number that its first bytes spell. Most parts differ in it, and are compared
 /// without their bytes.
 #[derive(Drop)]
-pub struct OrderedPart {
+pub struct OrderedPart<'a> {
     key: u64,
-    bytes: Vec<u8>,
+    bytes: &'a [u8],
 
-    ghost spelled: { IsFirstEight key bytes.items },
+    ghost spelled: { IsFirstEight key bytes.now },
 }
 
-impl AsSlice<u8> for OrderedPart {
-    ghost items = { λ p. p.bytes.items };
+impl<'a> AsSlice<u8> for OrderedPart<'a> {
+    ghost items = { λ p. p.bytes.now };
 
     fn as_slice(&self) -> &[u8] {
-        self.bytes.as_slice()
+        self.bytes
     }
 }
 
@@ -41,23 +41,23 @@ fn key_of(bytes: &[u8]) -> u64
     key
 }
 
-impl OrderedPart {
+impl<'a> OrderedPart<'a> {
     /// The part of these bytes.
-    pub fn new(bytes: Vec<u8>) -> OrderedPart
-        ensures { result.bytes ≡ bytes }
+    pub fn new(bytes: &'a [u8]) -> OrderedPart<'a>
+        ensures { result.bytes.now ≡ bytes.now }
     {
         OrderedPart {
-            key: key_of(&bytes),
+            key: key_of(bytes),
             bytes,
         }
     }
 
     /// The order of two parts.
-    pub fn compare(&self, other: &OrderedPart) -> Ordering
-        ensures { result ≡ octets_cmp self.now.bytes.items other.now.bytes.items }
+    pub fn compare(&self, other: &OrderedPart<'a>) -> Ordering
+        ensures { result ≡ octets_cmp self.now.bytes.now other.now.bytes.now }
     {
         if self.key == other.key {
-            return self.bytes.cmp(&other.bytes);
+            return self.bytes.cmp(other.bytes);
         }
         self.key.cmp(&other.key)
     }

@@ -186,6 +186,23 @@ impl PrependBuffer {
         self.mode
     }
 
+    // The bytes so far.
+    #[inline(always)]
+    pub(crate) fn bytes(&self) -> &[u8]
+        ensures { result.now ≡ self.now.bytes }
+    {
+        &self.block[self.start..]
+    }
+
+    // Removes the first bytes.
+    #[inline(always)]
+    pub(crate) fn remove_first(&mut self, some: usize)
+        requires { some ≤ count self.old.bytes }
+        ensures { self.new ≡ record self.old { bytes = drop some self.old.bytes } }
+    {
+        self.start += some;
+    }
+
     // The allocator.
     #[inline(always)]
     pub(crate) fn alloc(&self) -> Global {

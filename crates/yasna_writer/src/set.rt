@@ -3,7 +3,7 @@
 ghost use Rattle.std.specs.Prelude.{◌≡◌, ◌++◌, ◌∷◌, [], None, IsTrue, ◌↔◌, IfOk, MatchOption, MatchResult};
 ghost use Rattle.std.specs.Borrow.{sem};
 ghost use Rattle.std.specs.Fn.{FnOnceTakesAtMut};
-ghost use Rattle.std.specs.List.{AllByRecursion, flat_map};
+ghost use Rattle.std.specs.List.{AllByRecursion, concat, flat_map};
 ghost use Rattle.yasna_base.specs.declared.error.ASN1ErrorKind.TheVariants.{OutOfMemory};
 ghost use Rattle.yasna_base.specs.declared.tag.PCBit.TheVariants.{Constructed};
 ghost use Rattle.yasna_base.specs.Canonical.{canonical_element};
@@ -11,11 +11,12 @@ ghost use Rattle.yasna_base.specs.Error.{kind_of};
 ghost use Rattle.yasna_base.specs.Identifier.{tag_or};
 ghost use Rattle.yasna_base.specs.Order.{octets_cmp, in_order};
 ghost use Rattle.yasna_base.specs.Set.{set_tag, SetOfContents, SetContents};
-ghost use Rattle.yasna_writer.specs.Parts.{no_parts, only_part, bytes_each, ordered_bytes};
+ghost use Rattle.yasna_writer.specs.Parts.{begun_set, only_part, bytes_each, ordered_bytes};
 ghost use Rattle.yasna_writer.specs.Set.{Pushes, LosesParts, EndsPart, BeginsPart, BeginsNext, LendsPart, FailsAtSet, EndsSet, WritesSet, contents_in};
 ghost use Rattle.yasna_writer.specs.State.{Appended};
 ghost use Rattle.yasna_writer.specs.View.{holding, handed};
 
+use crate::order_parts::order_by_bytes;
 use crate::ordered_part::OrderedPart;
 use crate::state::{DERWriter, Writer};
 use crate::tagged_part::{TaggedPart, order_by_tag, tag_parts};
@@ -132,8 +133,8 @@ fn non_empty_bytes(part: &mut Writer) -> ASN1Result<Vec<u8>>
 }
 
 // The parts, each after its sort key.
-fn number_parts(alloc: Global, parts: Vec<Vec<u8>>) -> Result<Vec<OrderedPart>, AllocError>
-    ensures { IfOk result (λ v. ordered_bytes v.items ≡ bytes_each parts.items) }
+fn number_parts<'a>(alloc: Global, parts: &'a [Vec<u8>]) -> Result<Vec<OrderedPart<'a>>, AllocError>
+    ensures { IfOk result (λ v. ordered_bytes v.items ≡ bytes_each parts.now) }
 {
     let mut numbered = Vec::with_capacity(alloc, parts.len())?;
     for bytes in parts {
@@ -142,12 +143,15 @@ fn number_parts(alloc: Global, parts: Vec<Vec<u8>>) -> Result<Vec<OrderedPart>, 
     Ok(numbered)
 }
 
-// Puts parts in the order of a SET OF.
-fn order_by_bytes(alloc: Global, parts: Vec<Vec<u8>>) -> Result<Vec<OrderedPart>, AllocError>
-    ensures { IfOk result (λ v. ordered_bytes v.items ≡ in_order octets_cmp (bytes_each parts.items)) }
+// The parts in the order of a SET OF.
+fn in_set_of_order<'a>(
+    alloc: Global,
+    parts: &'a [Vec<u8>],
+) -> Result<Vec<OrderedPart<'a>>, AllocError>
+    ensures { IfOk result (λ v. ordered_bytes v.items ≡ in_order octets_cmp (bytes_each parts.now)) }
 {
     let mut ordered = number_parts(alloc, parts)?;
-    ordered.sort_by(|part, other| part.compare(other))?;
+    order_by_bytes(&mut ordered)?;
     Ok(ordered)
 }
 
@@ -155,7 +159,7 @@ impl DERWriterSet {
     // A set without parts.
     #[inline(always)]
     pub(crate) fn new(alloc: Global, mode: BERMode) -> DERWriterSet
-        ensures { result ≡ no_parts mode }
+        ensures { result ≡ begun_set mode }
     {
         DERWriterSet {
             parts: Vec::new(alloc),
@@ -179,19 +183,15 @@ impl DERWriterSet {
         Ok(parts)
     }
 
-    // The parts in the order of a SET OF, or why there are none.
-    fn into_set_of(self) -> ASN1Result<Vec<OrderedPart>>
-        ensures { MatchResult result (λ v. (self.failed ≡ None) × SetOfContents self.parts (flat_map (λ part. part.bytes.items) v.items)) (λ e. FailsAtSet SetOfContents self e) }
+    // The parts of a SET OF, or why there are none.
+    fn into_set_of(self) -> ASN1Result<Vec<Vec<u8>>>
+        ensures { MatchResult result (λ v. (self.failed ≡ None) × SetOfContents self.parts (concat (in_order octets_cmp (bytes_each v.items)))) (λ e. FailsAtSet SetOfContents self e) }
     {
-        let alloc = self.last.alloc();
         let parts = self.into_parts()?;
         if !are_non_empty(&parts) {
             return Err(ASN1Error::new(ASN1ErrorKind::Invalid));
         }
-        match order_by_bytes(alloc, parts) {
-            Ok(parts) => Ok(parts),
-            Err(_) => Err(ASN1Error::new(ASN1ErrorKind::OutOfMemory)),
-        }
+        Ok(parts)
     }
 
     // The parts in the order of a SET, or why there are none.
@@ -242,6 +242,17 @@ impl Writer {
         }
     }
 
+    // Writes an element around parts in the order of a SET OF, or fails with a sticky `OutOfMemory`.
+    fn write_ordered(&mut self, tag: Tag, parts: &[Vec<u8>])
+        requires { self.old ≡ handed self.old }
+        ensures { MatchOption self.new.failed (self.new ≡ holding self.old (self.old.bytes ++ canonical_element self.old.mode tag Constructed (concat (in_order octets_cmp (bytes_each parts.now))))) (λ k. kind_of k ≡ OutOfMemory) }
+    {
+        match in_set_of_order(self.alloc(), parts) {
+            Ok(ordered) => self.write_parts(tag, &ordered),
+            Err(_) => self.fail(ASN1Error::new(ASN1ErrorKind::OutOfMemory)),
+        }
+    }
+
     // Writes a SET OF around its only part, which needs no order, or fails with a sticky error.
     fn end_set_of_one(&mut self, tag: Tag, part: &mut Writer)
         requires { self.old ≡ handed self.old }
@@ -262,7 +273,7 @@ impl Writer {
             return self.end_set_of_one(tag, &mut set.last);
         }
         match set.into_set_of() {
-            Ok(parts) => self.write_parts(tag, &parts),
+            Ok(parts) => self.write_ordered(tag, &parts),
             Err(error) => self.fail(error),
         }
     }
@@ -295,14 +306,14 @@ impl Writer {
         E: From<ASN1Error> + Drop,
         F: FnOnce(&mut DERWriterSet) -> Result<T, E>,
     >(&mut self, order: PartOrder, f: F) -> Result<T, E>
-        requires { self.old.failed ≡ None → FnOnceTakesAtMut F.FnOnce f (no_parts self.old.mode) }
+        requires { self.old.failed ≡ None → FnOnceTakesAtMut F.FnOnce f (begun_set self.old.mode) }
         ensures { WritesSet F.FnOnce E.from_gives f (contents_in order) (canonical_element self.old.mode (tag_or self.old.tag set_tag) Constructed) self.old self.new result }
     {
         let tag = match self.fresh_tag(TAG_SET) {
             Ok(tag) => tag,
             Err(error) => return Err(E::from(error)),
         };
-        let mut set = self.no_parts();
+        let mut set = self.begin_set();
         let own = f(&mut set);
         self.end_set(tag, order, set);
         self.resolve(own)
@@ -318,7 +329,7 @@ impl Writer {
         E: From<ASN1Error> + Drop,
         F: FnOnce(&mut DERWriterSet) -> Result<T, E>,
     >(&mut self, f: F) -> Result<T, E>
-        requires { self.old.failed ≡ None → FnOnceTakesAtMut F.FnOnce f (no_parts self.old.mode) }
+        requires { self.old.failed ≡ None → FnOnceTakesAtMut F.FnOnce f (begun_set self.old.mode) }
         ensures { WritesSet F.FnOnce E.from_gives f SetContents (canonical_element self.old.mode (tag_or self.old.tag set_tag) Constructed) self.old self.new result }
     {
         self.write_in_order(PartOrder::Tags, f)
@@ -334,7 +345,7 @@ impl Writer {
         E: From<ASN1Error> + Drop,
         F: FnOnce(&mut DERWriterSet) -> Result<T, E>,
     >(&mut self, f: F) -> Result<T, E>
-        requires { self.old.failed ≡ None → FnOnceTakesAtMut F.FnOnce f (no_parts self.old.mode) }
+        requires { self.old.failed ≡ None → FnOnceTakesAtMut F.FnOnce f (begun_set self.old.mode) }
         ensures { WritesSet F.FnOnce E.from_gives f SetOfContents (canonical_element self.old.mode (tag_or self.old.tag set_tag) Constructed) self.old self.new result }
     {
         self.write_in_order(PartOrder::Bytes, f)

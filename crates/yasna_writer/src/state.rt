@@ -13,7 +13,7 @@ ghost use Rattle.yasna_base.specs.Identifier.{tag_or};
 ghost use Rattle.yasna_writer.specs.Construct.{Constructed};
 ghost use Rattle.yasna_writer.specs.Sequence.{ReturnsSticky};
 ghost use Rattle.yasna_writer.specs.Header.{header_bytes, indefinite_header};
-ghost use Rattle.yasna_writer.specs.Parts.{no_parts};
+ghost use Rattle.yasna_writer.specs.Parts.{begun_set};
 ghost use Rattle.yasna_writer.specs.State.{Appended, TakesTag, BeginsAt, EndsElement};
 ghost use Rattle.yasna_writer.specs.Tagged.{writing_under, LeftAfter};
 
@@ -284,10 +284,10 @@ impl Writer {
         self.failed = failed;
     }
 
-    // The parts of a set that begins.
+    // Begins a set, in the mode of the writing.
     #[inline(always)]
-    pub(crate) fn no_parts(&self) -> DERWriterSet
-        ensures { result ≡ no_parts self.now.mode }
+    pub(crate) fn begin_set(&self) -> DERWriterSet
+        ensures { result ≡ begun_set self.now.mode }
     {
         DERWriterSet::new(self.alloc, self.mode)
     }

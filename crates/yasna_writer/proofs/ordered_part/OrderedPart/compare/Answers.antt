@@ -6,4 +6,4 @@ pub returns : goal.returns
 returns c =
     let part = c.args.self.now in
     let other = c.args.other.now in
-    c.cmp-2.ensures ∙ by_key part.key other.key part.bytes.items other.bytes.items part.spelled other.spelled c.if-self-other.false
+    c.cmp-2.ensures ∙ by_key part.key other.key part.bytes.now other.bytes.now part.spelled other.spelled c.if-self-other.false

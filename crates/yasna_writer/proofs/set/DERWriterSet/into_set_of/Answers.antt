@@ -18,9 +18,9 @@ returns-then-not-are_non_empty c =
       ),
     )
 
-pub returns-in-Ok : goal.returns-in-Ok
-returns-in-Ok c =
+pub returns : goal.returns
+returns c =
     let taken = c.in_ok-parts.ensures in
     let all = subst (λ z. AllByRecursion (λ v. v.items ≡ [] → ⊥) z) c.deref.ensures.value
     (c.are_non_empty.ensures.0 c.if-not-are_non_empty.false) in
-    (taken.0, set_of_contents c.in_ok-parts.parts.items _ _ taken.1 all (c.in-Ok.ensures {u = tt}))
+    (taken.0, set_of_contents c.in_ok-parts.parts.items _ taken.1 all)

@@ -13,8 +13,8 @@ returns-then-is_empty c =
 pub returns-in-Ok : goal.returns-in-Ok
 returns-in-Ok c =
     let taken = c.in-Ok.ensures {u = tt} in
-    option_weaker c.write_parts.new.self.failed _ _ _ _
-    (λ e. (taken.0, _, taken.1, rw c.deref.ensures.value at e)) (λ k e. inr (taken.0, inl e)) c.write_parts.ensures
+    option_weaker c.write_ordered.new.self.failed _ _ _ _
+    (λ e. (taken.0, _, taken.1, rw c.deref.ensures.value at e)) (λ k e. inr (taken.0, inl e)) c.write_ordered.ensures
 
 pub returns-in-Err : goal.returns-in-Err
 returns-in-Err c = rw c.fail.ensures (c.in-Err.ensures {u = tt})

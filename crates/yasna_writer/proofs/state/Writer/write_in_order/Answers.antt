@@ -1,7 +1,7 @@
 use Rattle.std.proofs.Common.{refl, ap, ◌∙◌}
 use Rattle.yasna_base.specs.Identifier.{tag_or}
 use Rattle.yasna_base.specs.Set.{set_tag}
-use Rattle.yasna_writer.specs.Parts.{no_parts}
+use Rattle.yasna_writer.specs.Parts.{begun_set}
 use Rattle.yasna_writer.specs.Set.{contents_in}
 use Rattle.yasna_writer.specs.View.{Written}
 use Rattle.yasna_writer.proofs.Sets.{set_ends}
@@ -10,7 +10,7 @@ use Rattle.yasna_writer.proofs.state.Writer.write_in_order.Goals as goal
 pub f-own-requires : goal.f-own-requires
 f-own-requires g c =
     let taken = c.in-Ok.ensures {u = tt} in
-    c.requires taken.0 _ (c.no_parts-set.ensures ∙ ap (λ (w : Written). no_parts w.mode) taken.2)
+    c.requires taken.0 _ (c.begin_set-set.ensures ∙ ap (λ (w : Written). begun_set w.mode) taken.2)
 
 pub returns : goal.returns
 returns g c =
@@ -22,7 +22,7 @@ returns g c =
       left = left;
       ran = record {
         shown = _;
-        shows = c.no_parts-set.ensures ∙ ap (λ (w : Written). no_parts w.mode) taken.2;
+        shows = c.begin_set-set.ensures ∙ ap (λ (w : Written). begun_set w.mode) taken.2;
         left = _;
         met = c.f-own.ensures;
         leaves = refl;
