@@ -1,3 +1,4 @@
+pub mod Tuples
 pub mod Words
 pub use Rattle.yasna_base.specs as base
 pub use Rattle.yasna_times.specs as time

@@ -14,6 +14,7 @@ ghost use Rattle.yasna_writer.specs.Prepend.{Prepends, KnownLength};
 ghost use Rattle.yasna_writer.specs.View.{Writes, WroteParts};
 ghost use Rattle.yasna_reader.specs.State.{IsFresh, part_of};
 ghost use Rattle.yasna_reader.specs.Decodes.{Decodes, DecodesParts, RepeatsError};
+ghost use Rattle.yasna.specs.Tuples.{six_may_allocate, six_encoding, six_can, in_pairs, values_in_pairs, SixPartsOf, AnySixParts};
 
 mod exact;
 mod seven_to_twelve;
@@ -104,7 +105,11 @@ fn read_long_tuple<
     W: TupleParts + Drop,
 >(reader: BERReader) -> ASN1Result<((A, B, C, D, E, F), W)>
     requires { reader.old.tag ≡ None }
-    ensures decodes { reader.old.failed ≡ None → Decodes (A.may_allocate || (B.may_allocate || (C.may_allocate || (D.may_allocate || (E.may_allocate || (F.may_allocate || W.parts_may_allocate)))))) (λ m n v b. Enclosed (PartOf A.encodes (PartOf B.encodes (PartOf C.encodes (PartOf D.encodes (PartOf E.encodes (PartOf F.encodes W.parts)))))) sequence_tag m n (v.0.0, (v.0.1, (v.0.2, (v.0.3, (v.0.4, (v.0.5, v.1)))))) b) (AnyEnclosed (AnyPart A.elements (AnyPart B.elements (AnyPart C.elements (AnyPart D.elements (AnyPart E.elements (AnyPart F.elements W.any_parts)))))) sequence_tag) reader.old result reader.new }
+    ensures decodes { reader.old.failed ≡ None → Decodes
+        (six_may_allocate A.may_allocate B.may_allocate C.may_allocate D.may_allocate E.may_allocate F.may_allocate W.parts_may_allocate)
+        (λ m n v b. Enclosed (SixPartsOf A.encodes B.encodes C.encodes D.encodes E.encodes F.encodes W.parts) sequence_tag m n (in_pairs v) b)
+        (AnyEnclosed (AnySixParts A.elements B.elements C.elements D.elements E.elements F.elements W.any_parts) sequence_tag)
+        reader.old result reader.new }
     ensures failed { RepeatsError reader.old result reader.new }
 {
     match read_tuple(reader) {
@@ -221,9 +226,9 @@ fn write_long_tuple<
     F: DEREncodable,
     W: EncodableParts + Drop,
 >(first: (&A, &B, &C, &D, &E, &F), others: W, writer: DERWriter<'_>) -> ASN1Result<()>
-    requires can { part_can A.encodable (part_can B.encodable (part_can C.encodable (part_can D.encodable (part_can E.encodable (part_can F.encodable W.parts_encodable))))) (first.0.now, (first.1.now, (first.2.now, (first.3.now, (first.4.now, (first.5.now, others)))))) }
+    requires can { six_can A.encodable B.encodable C.encodable D.encodable E.encodable F.encodable W.parts_encodable (values_in_pairs first others) }
     requires untagged { writer.old.tag ≡ None }
-    ensures { Writes (enclosed_encoding (part_encoding A.encoding (part_encoding B.encoding (part_encoding C.encoding (part_encoding D.encoding (part_encoding E.encoding (part_encoding F.encoding W.parts_encoding)))))) sequence_tag writer.old.mode (first.entry.0.now, (first.entry.1.now, (first.entry.2.now, (first.entry.3.now, (first.entry.4.now, (first.entry.5.now, others))))))) writer.old writer.new result }
+    ensures { Writes (enclosed_encoding (six_encoding A.encoding B.encoding C.encoding D.encoding E.encoding F.encoding W.parts_encoding) sequence_tag writer.old.mode (values_in_pairs first.entry others)) writer.old writer.new result }
 {
     let (a, b, c, d, e, f) = first;
     write_tuple(&(a, (b, (c, (d, (e, (f, others)))))), writer)
@@ -239,8 +244,8 @@ fn prepend_long_tuple<
     F: DEREncodable,
     W: EncodableParts + Drop,
 >(first: (&A, &B, &C, &D, &E, &F), others: W, out: &mut PrependBuffer) -> ASN1Result<()>
-    requires { part_can A.encodable (part_can B.encodable (part_can C.encodable (part_can D.encodable (part_can E.encodable (part_can F.encodable W.parts_encodable))))) (first.0.now, (first.1.now, (first.2.now, (first.3.now, (first.4.now, (first.5.now, others)))))) }
-    ensures { Prepends (enclosed_encoding (part_encoding A.encoding (part_encoding B.encoding (part_encoding C.encoding (part_encoding D.encoding (part_encoding E.encoding (part_encoding F.encoding W.parts_encoding)))))) sequence_tag out.old.mode (first.entry.0.now, (first.entry.1.now, (first.entry.2.now, (first.entry.3.now, (first.entry.4.now, (first.entry.5.now, others))))))) out.old out.new result }
+    requires { six_can A.encodable B.encodable C.encodable D.encodable E.encodable F.encodable W.parts_encodable (values_in_pairs first others) }
+    ensures { Prepends (enclosed_encoding (six_encoding A.encoding B.encoding C.encoding D.encoding E.encoding F.encoding W.parts_encoding) sequence_tag out.old.mode (values_in_pairs first.entry others)) out.old out.new result }
 {
     let (a, b, c, d, e, f) = first;
     prepend_tuple(&(a, (b, (c, (d, (e, (f, others)))))), out)
@@ -256,8 +261,8 @@ fn long_tuple_len<
     F: DEREncodable,
     W: EncodableParts + Drop,
 >(first: (&A, &B, &C, &D, &E, &F), others: W, mode: BERMode) -> Option<usize>
-    requires { part_can A.encodable (part_can B.encodable (part_can C.encodable (part_can D.encodable (part_can E.encodable (part_can F.encodable W.parts_encodable))))) (first.0.now, (first.1.now, (first.2.now, (first.3.now, (first.4.now, (first.5.now, others)))))) }
-    ensures { KnownLength (enclosed_encoding (part_encoding A.encoding (part_encoding B.encoding (part_encoding C.encoding (part_encoding D.encoding (part_encoding E.encoding (part_encoding F.encoding W.parts_encoding)))))) sequence_tag mode (first.entry.0.now, (first.entry.1.now, (first.entry.2.now, (first.entry.3.now, (first.entry.4.now, (first.entry.5.now, others))))))) result }
+    requires { six_can A.encodable B.encodable C.encodable D.encodable E.encodable F.encodable W.parts_encodable (values_in_pairs first others) }
+    ensures { KnownLength (enclosed_encoding (six_encoding A.encoding B.encoding C.encoding D.encoding E.encoding F.encoding W.parts_encoding) sequence_tag mode (values_in_pairs first.entry others)) result }
 {
     let (a, b, c, d, e, f) = first;
     tuple_len(&(a, (b, (c, (d, (e, (f, others)))))), mode)
