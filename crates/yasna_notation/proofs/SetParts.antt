@@ -30,7 +30,7 @@ use Rattle.yasna_reader.specs.State.{Reading}
 use Rattle.yasna_reader.proofs.Sticky.{parts_repeat_error}
 use Rattle.yasna_reader.proofs.SetOfReads.{any_set_of_by_tag}
 use Rattle.yasna_reader.proofs.UnderTags.{parts_under}
-use Rattle.yasna_writer.specs.Parts.{WrittenParts, no_parts}
+use Rattle.yasna_writer.specs.Parts.{WrittenParts, begun_set}
 use Rattle.yasna_writer.specs.Sequence.{ReturnsSticky, ReturnsOnly}
 use Rattle.yasna_writer.specs.Set.{FailedAtPart, BeginsPart, parts_unless_failed, FailsAtSet, WritesParts, WroteSet, WritesSet}
 use Rattle.yasna_writer.specs.View.{Written, holding, Writes, Wrote, FailsOutOfMemory}
@@ -184,7 +184,7 @@ module _ {A : Type 0} (encoding : Encoding A) (t : Tag) (vs : List A) (non_empty
 pub set_written : {A F : Type 0} (g : Once F (MutBor WrittenParts × Unit {0}) (Result (Unit {0}) ASN1Error × (MutBor WrittenParts × Unit {0})))
     (from : ASN1Error → ASN1Error → Type 0) (f : F) (encoding : Encoding A) (t : Tag) (vs : List A) → ((m : BERMode) (v : A) → HasOctets (encoding m v)) →
     ((k e : ASN1Error) → from k e → e ≡ k) →
-    ((p q : MutBor WrittenParts) (r : Result (Unit {0}) ASN1Error) → p.now ≡ no_parts p.now.mode → g.post f (p, tt) (r, (q, tt)) →
+    ((p q : MutBor WrittenParts) (r : Result (Unit {0}) ASN1Error) → p.now ≡ begun_set p.now.mode → g.post f (p, tt) (r, (q, tt)) →
     WroteElements (encodings encoding p.now.mode vs) q.now r) → (old new : Written) (r : Result (Unit {0}) ASN1Error) →
     WritesSet g from f SetOfContents (canonical_element old.mode t Constructed) old new r → Writes (sorted_set_of_encoding encoding t old.mode vs) old new r
 set_written {A} {F} g from f encoding t vs non_empty same obeys old new r h = go old.failed h
@@ -198,6 +198,6 @@ set_written {A} {F} g from f encoding t vs non_empty same obeys old new r h = go
         (λ k. new.failed ≡ Some k)
     go (Some k) h = h.0
     go None h =
-        let x = by_run {g = g} {f = f} (λ s u s'. s ≡ no_parts s.mode → WroteElements (encodings encoding s.mode vs) s' u)
-        (λ p q u post begins. obeys p q u begins post) (no_parts m) h.own h.left h.ran refl in
+        let x = by_run {g = g} {f = f} (λ s u s'. s ≡ begun_set s.mode → WroteElements (encodings encoding s.mode vs) s' u)
+        (λ p q u post begins. obeys p q u begins post) (begun_set m) h.own h.left h.ran refl in
         at_end encoding t vs non_empty m h.left h.own x from same old new new.failed r h.ends h.returns

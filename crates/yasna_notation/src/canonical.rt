@@ -30,7 +30,9 @@ ghost use Rattle.yasna_base.proofs.Sequence.{no_part_written};
 ghost use Rattle.yasna_bytes.specs.Contents.{big_integer_in};
 ghost use Rattle.yasna_times.specs.UtcTime.{utc_time_tag};
 ghost use Rattle.yasna_times.specs.GeneralizedTime.{generalized_time_tag};
-ghost use Rattle.yasna_notation.specs.Canonical.{element_written, text_under, class_under, utc_under, general_under, list_under, set_of_under, bounded_written, implicit_written, part_writes, option_writes, default_writes, last_part_writes, either_writes, last_writes, choice_written_as, represented_written};
+ghost use Rattle.yasna_notation.specs.Canonical.{element_written, text_under, class_under, utc_under, general_under, list_under, set_of_under};
+ghost use Rattle.yasna_notation.specs.Canonical.{bounded_written, implicit_written, part_writes, option_writes, default_writes, last_part_writes};
+ghost use Rattle.yasna_notation.specs.Canonical.{either_writes, last_writes, choice_written_as, represented_written};
 ghost use Rattle.yasna_notation.specs.Laws.{octets_of};
 ghost use Rattle.yasna_notation.specs.Notation.{IsWrittenMeaning};
 

@@ -214,9 +214,9 @@ where
     }
 }
 
-// Writes a part, unless it is the default.
+/// Writes a part, unless it is the default.
 #[inline(always)]
-fn write_unless_default<A: Notation, D: DefaultValue<A>>(
+pub fn write_unless_default<A: Notation, D: DefaultValue<A>>(
     value: &A::Value,
     seq: &mut DERWriterSeq,
 ) -> ASN1Result<()>
@@ -231,9 +231,9 @@ where
     A::write(value, seq.next())
 }
 
-// Prepends a part, unless it is the default.
+/// Prepends a part to a buffer, as `Notation::prepend`, unless it is the default.
 #[inline(always)]
-fn prepend_unless_default<A: Notation, D: DefaultValue<A>>(
+pub fn prepend_unless_default<A: Notation, D: DefaultValue<A>>(
     value: &A::Value,
     out: &mut PrependBuffer,
 ) -> ASN1Result<()>
@@ -249,9 +249,9 @@ where
     }
 }
 
-// The length of a part, or 0 if it is the default.
+/// The length of a part, as `Notation::encoded_len`, or 0 if it is the default.
 #[inline(always)]
-fn unless_default_len<A: Notation, D: DefaultValue<A>>(
+pub fn unless_default_len<A: Notation, D: DefaultValue<A>>(
     value: &A::Value,
     mode: BERMode,
 ) -> Option<usize>

@@ -38,17 +38,20 @@ pub use bounded::{Bound, Bounded};
 pub use bounds::{AtMost, Exactly, FromTo, FromZero, NotEmpty, Size, SizeAtMost, UpTo};
 pub use canonical::{CanonicalAlternatives, CanonicalNotation, CanonicalParts};
 pub use choices::{Alternatives, Choice, Either};
-pub use defaults::{Default, DefaultValue, False, Number};
+pub use defaults::{
+    Default, DefaultValue, False, Number, prepend_unless_default, unless_default_len,
+    write_unless_default,
+};
 pub use defined_type::DefinedType;
 pub use encoded::Encoded;
 pub use explicit_tags::Explicit;
 pub use first_bytes::{WithFirst, read_parts_with_first};
 pub use implicit_tags::Implicit;
 pub use last::Last;
-pub use lists::SequenceOf;
+pub use lists::{SequenceOf, items_len, prepend_items, write_items};
 pub use messages::{Message, Represents, read_as};
 pub use notation::Notation;
-pub use parts::{Optional, Parts, PartsBy};
+pub use parts::{Optional, Parts, PartsBy, optional_len, prepend_optional, write_optional};
 pub use sequences::Sequence;
 pub use set_lists::SetOf;
 pub use simple::{BigInteger, Enumerated};

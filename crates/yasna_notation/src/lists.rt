@@ -90,8 +90,8 @@ fn write_list<N: Notation>(items: &[N::Value], writer: DERWriter<'_>) -> ASN1Res
     writer.write_sequence_of(|seq| write_items::<N>(items, seq))
 }
 
-// Writes items, one after the other.
-fn write_items<N: Notation>(items: &[N::Value], seq: &mut DERWriterSeq) -> ASN1Result<()>
+/// Writes items, one after the other.
+pub fn write_items<N: Notation>(items: &[N::Value], seq: &mut DERWriterSeq) -> ASN1Result<()>
     requires { AllByRecursion N.means.can items.now }
     ensures { WroteParts (elements_encoding (N.means.encoding_under None) seq.old.mode items.now) seq.old seq.new result }
 {
@@ -123,8 +123,8 @@ fn list_len<N: Notation>(items: &[N::Value], tag: Tag, mode: BERMode) -> Option<
     constructed_len(mode, tag, items_len::<N>(items, mode)?)
 }
 
-// Prepends items, from the last to the first.
-fn prepend_items<N: Notation>(items: &[N::Value], out: &mut PrependBuffer) -> ASN1Result<()>
+/// Prepends items to a buffer, from the last to the first, as `Notation::prepend`.
+pub fn prepend_items<N: Notation>(items: &[N::Value], out: &mut PrependBuffer) -> ASN1Result<()>
     requires { AllByRecursion N.means.can items.now }
     ensures { Prepends (elements_encoding (N.means.encoding_under None) out.old.mode items.now) out.old out.new result }
 {
@@ -136,8 +136,8 @@ fn prepend_items<N: Notation>(items: &[N::Value], out: &mut PrependBuffer) -> AS
     Ok(())
 }
 
-// The length of items, one after the other.
-pub(crate) fn items_len<N: Notation>(items: &[N::Value], mode: BERMode) -> Option<usize>
+/// The length of items, one after the other, as `Notation::encoded_len`.
+pub fn items_len<N: Notation>(items: &[N::Value], mode: BERMode) -> Option<usize>
     requires { AllByRecursion N.means.can items.now }
     ensures { KnownLength (elements_encoding (N.means.encoding_under None) mode items.now) result }
 {

@@ -280,9 +280,9 @@ impl<A: Notation, W: Parts> Parts for (Optional<A>, W) {
     ghost laws = { λ a. option_laws (λ b. (A.lawful b).own) W.laws a };
 }
 
-// Writes a part that may be omitted.
+/// Writes a part that may be omitted.
 #[inline(always)]
-pub(crate) fn write_optional<A: Notation>(
+pub fn write_optional<A: Notation>(
     value: &Option<A::Value>,
     seq: &mut DERWriterSeq,
 ) -> ASN1Result<()>
@@ -295,9 +295,9 @@ pub(crate) fn write_optional<A: Notation>(
     }
 }
 
-// Prepends a part that may be omitted.
+/// Prepends a part that may be omitted to a buffer, as `Notation::prepend`.
 #[inline(always)]
-pub(crate) fn prepend_optional<A: Notation>(
+pub fn prepend_optional<A: Notation>(
     value: &Option<A::Value>,
     out: &mut PrependBuffer,
 ) -> ASN1Result<()>
@@ -310,9 +310,9 @@ pub(crate) fn prepend_optional<A: Notation>(
     }
 }
 
-// The length of a part that may be omitted.
+/// The length of a part that may be omitted, as `Notation::encoded_len`: 0 if it is.
 #[inline(always)]
-pub(crate) fn optional_len<A: Notation>(value: &Option<A::Value>, mode: BERMode) -> Option<usize>
+pub fn optional_len<A: Notation>(value: &Option<A::Value>, mode: BERMode) -> Option<usize>
     requires { option_can A.means.can value.now }
     ensures { KnownLength (option_encoding (A.means.encoding_under None) mode value.now) result }
 {

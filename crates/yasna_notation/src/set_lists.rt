@@ -5,12 +5,14 @@ ghost use Rattle.std.proofs.Common.{arith};
 ghost use Rattle.yasna_base.specs.AnyOrder.{SameSetOf, InSomeOrder, sorted_set_of_encoding};
 ghost use Rattle.yasna_base.specs.Exact.{enclosed_fits, elements_fit};
 ghost use Rattle.yasna_base.specs.Identifier.{tag_or};
+ghost use Rattle.yasna_base.specs.SequenceOf.{elements_encoding};
 ghost use Rattle.yasna_base.specs.Set.{set_tag, IsSetOf, AnySetOf, AnySetOfElements};
-ghost use Rattle.yasna_base.specs.SetWriting.{encodings, set_of_depth};
+ghost use Rattle.yasna_base.specs.SetWriting.{encodings, in_encoding_order, set_of_depth};
 ghost use Rattle.yasna_base.proofs.ExplicitTags.{enclosed_begins};
 ghost use Rattle.yasna_base.proofs.Identifier.{not_end};
-ghost use Rattle.yasna_writer.specs.Parts.{no_parts};
+ghost use Rattle.yasna_writer.specs.Parts.{begun_set};
 ghost use Rattle.yasna_writer.specs.Prepend.{Prepends, KnownLength};
+ghost use Rattle.yasna_writer.specs.PartOrder.{PrependsParts};
 ghost use Rattle.yasna_writer.specs.View.{Writes};
 ghost use Rattle.yasna_notation.specs.Making.{in_set_of};
 ghost use Rattle.yasna_notation.specs.Laws.{element_lawful, element_non_empty};
@@ -95,7 +97,7 @@ fn write_set<N: Notation>(items: &[N::Value], writer: DERWriter<'_>) -> ASN1Resu
 // Writes items as the parts of a set.
 fn write_elements<N: Notation>(items: &[N::Value], set: &mut DERWriterSet) -> ASN1Result<()>
     requires can { AllByRecursion N.means.can items.now }
-    requires begins { set.old ≡ no_parts set.old.mode }
+    requires begins { set.old ≡ begun_set set.old.mode }
     ensures { WroteElements (encodings (N.means.encoding_under None) set.old.mode items.now) set.new result }
 {
     for item in items {
@@ -121,7 +123,7 @@ fn write_element<N: Notation>(item: &N::Value, writer: DERWriter<'_>) -> ASN1Res
     }
 }
 
-// Prepends a SET OF these items, which at most one needs no order for.
+// Prepends a SET OF these items. At most one needs no order.
 fn prepend_set<N: Notation>(items: &[N::Value], tag: Tag, out: &mut PrependBuffer) -> ASN1Result<()>
     requires { AllByRecursion N.means.can items.now }
     ensures { Prepends (sorted_set_of_encoding (N.means.encoding_under None) tag out.old.mode items.now) out.old out.new result }
@@ -129,9 +131,37 @@ fn prepend_set<N: Notation>(items: &[N::Value], tag: Tag, out: &mut PrependBuffe
     if items.len() <= 1 {
         return prepend_list::<N>(items, tag, out);
     }
-    let mut writer = out.writer_under(Some(tag));
-    write_set::<N>(items, &mut writer)?;
-    out.prepend_written(&mut writer)
+    let after = out.begin_contents()?;
+    prepend_ordered::<N>(items, out)?;
+    out.enclose(tag, after)
+}
+
+// Prepends items, in the order of their bytes.
+fn prepend_ordered<N: Notation>(items: &[N::Value], out: &mut PrependBuffer) -> ASN1Result<()>
+    requires { AllByRecursion N.means.can items.now }
+    ensures { Prepends (elements_encoding (N.means.encoding_under None) out.old.mode (in_encoding_order (N.means.encoding_under None) out.old.mode items.now)) out.old out.new result }
+{
+    let lens = prepend_elements::<N>(items, out)?;
+    out.order_parts(&lens)
+}
+
+// Prepends items, from the last to the first, and returns the length of each, in that order.
+fn prepend_elements<N: Notation>(
+    items: &[N::Value],
+    out: &mut PrependBuffer,
+) -> ASN1Result<Vec<usize>>
+    requires { AllByRecursion N.means.can items.now }
+    ensures { PrependsParts (N.means.encoding_under None) items.now out.old out.new result }
+{
+    let mut lens = out.part_lens(items.len())?;
+    let mut rest = items;
+    while let Some((last, others)) = rest.split_last() {
+        let after = out.len();
+        N::prepend(last, None, out)?;
+        lens.push(out.len() - after)?;
+        rest = others;
+    }
+    Ok(lens)
 }
 
 // The length of that. It is the same in any order.
