@@ -1,20 +1,23 @@
 -- What reading the parts of a SET does: each is chosen by its tag from the elements that were found.
-use Rattle.std.proofs.Common.{◌≡◌, ◌∷◌, ◌++◌, [], ◌<◌, ◌≤◌, ℕ, zero, suc, List, Bool, true, Option, Some, None, Result, Ok, Err, inl, inr, length, refl, sym, ap, ap₂, subst, ◌∙◌, append-nil, length-append, take, drop, arith}
+use Rattle.std.proofs.Common.{◌≡◌, ◌∷◌, ◌++◌, [], ◌<◌, ◌≤◌, ℕ, zero, suc, List, Bool, true, false, Option, Some, None, Result, Ok, Err, inl, inr, length, refl, sym, ap, ap₂, subst, ◌∙◌, append-nil, length-append, take, drop, arith}
 use Rattle.std.specs.Borrow.{MutBor}
 use Rattle.std.specs.Fn.{Once, FnOnceReturnsAtMut}
 use Rattle.std.specs.List.{AllByRecursion, Contains}
-use Rattle.std.specs.Prelude.{slice_index_or}
+use Rattle.std.specs.Prelude.{slice_index_or, ◌⊎◌, if◌then◌else◌}
 use Rattle.yasna_base.specs.declared.error.ASN1Error.{ASN1Error}
 use Rattle.yasna_base.specs.declared.error.ASN1ErrorKind.TheVariants.{OutOfMemory}
 use Rattle.yasna_base.specs.declared.mode.BERMode.{BERMode}
+use Rattle.yasna_base.specs.declared.mode.BERMode.TheVariants.{Ber, Der, Cer}
 use Rattle.yasna_base.specs.declared.tag.Tag.{Tag}
-use Rattle.yasna_base.specs.Beginnings.{share_none}
+use Rattle.yasna_base.specs.Beginnings.{BeginsWithOne, BeginsBy, share_none}
+use Rattle.yasna_base.specs.Choice.{EitherOf, AnyEither}
 use Rattle.yasna_base.specs.Coding.{IsCoding}
+use Rattle.yasna_base.specs.Default.{TakesDefault, DetectsDefault}
 use Rattle.yasna_base.specs.Error.{kind_of}
-use Rattle.yasna_base.specs.Exact.{Fitting}
-use Rattle.yasna_base.specs.Grammar.{Grammar, Members, Encoding}
+use Rattle.yasna_base.specs.Grammar.{Grammar, Members}
 use Rattle.yasna_base.specs.Identifier.{BeginsWithTag}
 use Rattle.yasna_base.specs.Raw.{RawValue}
+use Rattle.yasna_base.proofs.Beginnings.{no_common_tag}
 use Rattle.yasna_base.proofs.Identifier.{begins_once}
 use Rattle.yasna_base.proofs.SetWriting.{raw_begins}
 use Rattle.yasna_reader.specs.declared.callback.Outcome.{Outcome}
@@ -31,11 +34,13 @@ use Rattle.yasna_reader.specs.SetOptional.{ReadsSingle, ReadsTaken, ReadsNone, R
 use Rattle.yasna_reader.specs.State.{Reading, IsFresh, Does}
 use Rattle.yasna_reader.proofs.Sequences.{place_after}
 use Rattle.yasna_reader.proofs.Tuples.{IsDecoder}
-use Rattle.yasna_notation.specs.Notation.{IsNotation}
+use Rattle.yasna_notation.specs.declared.choices.Either.{Either}
+use Rattle.yasna_notation.specs.declared.choices.Either.TheVariants.{First, Second}
+use Rattle.yasna_notation.specs.Choices.{sides}
 use Rattle.yasna_notation.proofs.Contents.{paired}
 use Rattle.yasna.proofs.Closures.{by_run}
-use Rattle.yasna_notation_types.specs.SetParts.{Pieced, PickOf, OptionPick, PickMaybe, AreSetParts, AreSingleElements, tag_precedes, all_others, pick_once, others_without, tagged}
-use Rattle.yasna_notation_types.specs.SetReading.{encodings_of, AreFound, set_result, ReadsPicks, ReadsSetParts}
+use Rattle.yasna_notation_types.specs.SetParts.{Pieced, PickOf, OptionPick, DefaultPick, UnlessDefault, PickMaybe, AreSetParts, AreSingleElements, tags_precede, all_others, pick_once, others_without, tagged, unless_default, not_both}
+use Rattle.yasna_notation_types.specs.SetReading.{encodings_of, AreFound, set_result, ReadsPicks, ReadsSetParts, Chose, ChoseNone, ChoseWrong, ChosenIs, ReadsSetPart, value_or_default, as_second}
 
 -- an element was read to its end
 record ReadWhole {A : Type 0} (B : A → List ℕ → Type 0) (z : Reading) (v : A) (w : Reading) : Type 0 where
@@ -132,51 +137,22 @@ only_tag : (t u : Tag) → Contains (t ∷ []) u → t ≡ u
 only_tag t u (zero, p, e) = e
 only_tag t u (suc k, p, e) = absurd (omega (arith, p))
 
+only_one : (t : Tag) (b : List ℕ) → BeginsWithOne (t ∷ []) b → BeginsWithTag t b
+only_one t b (inl x) = x
+only_one t b (inr x) = absurd x
+
 none_has : (t : Tag) (n : ℕ) (m : BERMode) (l : List SetElement) → ((k : ℕ) (d : SetElement) → 0 ≤ k → k < length l → IsAmong (t ∷ []) (slice_index_or l k d) → ⊥) →
-    AreFound n m l → AllByRecursion (λ b. BeginsWithTag t b → ⊥) (encodings_of l)
+    AreFound n m l → AllByRecursion (λ b. BeginsWithOne (t ∷ []) b → ⊥) (encodings_of l)
 none_has t n m [] h f = tt
 none_has t n m (x ∷ l) h f = (
-  λ b. h 0 x (omega arith) (omega arith) (0, omega arith, begins_once t x.tag x.bytes.now b (found_tag n m x f.0)),
+  λ b. h 0 x (omega arith) (omega arith) (0, omega arith, begins_once t x.tag x.bytes.now (only_one t x.bytes.now b) (found_tag n m x f.0)),
   none_has t n m l (λ k d a p. h (suc k) d (omega arith) (omega (arith, p))) f.1,
 )
-
--- an element of the tag was chosen, and read as v
-record Chose {A : Type 0} (B : A → List ℕ → Type 0) (t : Tag) (c : SetReading) (v : A) (c' : SetReading) : Type 0 where
-  prefix_before : List (List ℕ)
-  one : List ℕ
-  after : List (List ℕ)
-  whole : encodings_of c.list.items ≡ prefix_before ++ (one ∷ after)
-  others : encodings_of c'.list.items ≡ prefix_before ++ after
-  has_tag : BeginsWithTag t one
-  encodes : B v one
-  reader : c'.reader ≡ record c.reader { left = [] }
-  found : AreFound c.reader.levels c.reader.mode c'.list.items
-
--- there is no element of the tag
-record ChoseNone (t : Tag) (c c' : SetReading) : Type 0 where
-  none : AllByRecursion (λ b. BeginsWithTag t b → ⊥) (encodings_of c.list.items)
-  others : c'.list.items ≡ c.list.items
-  reader : c'.reader ≡ c.reader
-
--- an element of the tag was chosen, and is no encoding
-record ChoseWrong (S : List ℕ → Type 0) (t : Tag) (c : SetReading) (e : ASN1Error) (c' : SetReading) : Type 0 where
-  prefix_before : List (List ℕ)
-  one : List ℕ
-  after : List (List ℕ)
-  whole : encodings_of c.list.items ≡ prefix_before ++ (one ∷ after)
-  has_tag : BeginsWithTag t one
-  none : (kind_of e ≡ OutOfMemory → ⊥) → S one → ⊥
-  is_sticky : c'.reader.failed ≡ Some e
-
-abbrev ChosenIs : {A : Type 0} → Grammar A → Members → Tag → SetReading → Result (Option A) ASN1Error → SetReading → Type 0
-ChosenIs B S t c (Ok (Some v)) c' = Chose (B c.reader.mode c.reader.levels) t c v c'
-ChosenIs B S t c (Ok None) c' = ChoseNone t c c'
-ChosenIs B S t c (Err e) c' = ChoseWrong (S c.reader.mode c.reader.levels) t c e c'
 
 module _ {A : Type 0} {E : A → A → Type 0} {B : Grammar A} {S : Members} (laws : IsCoding E B S) (may_allocate : Bool) (N : Does A)
     (decoder : IsDecoder may_allocate B S N) (t : Tag) (c c' : SetReading) (fresh : IsFresh c.reader)
     (found : AreFound c.reader.levels c.reader.mode c.list.items) where
-  taken : (r : Result (Option A) ASN1Error) → ReadsTaken N (t ∷ []) c r c' → ChosenIs B S t c r c'
+  taken : (r : Result (Option A) ASN1Error) → ReadsTaken N (t ∷ []) c r c' → ChosenIs B S (t ∷ []) c r c'
   taken r h = by_own h.own (single_is laws may_allocate N decoder h.single single_fresh h.own c'.reader h.reads) h.returned
     where
       place : ℕ
@@ -219,37 +195,37 @@ module _ {A : Type 0} {E : A → A → Type 0} {B : Grammar A} {S : Members} (la
       levels_is : h.single.levels ≡ c.reader.levels
       levels_is = ap (λ (k : Reading). k.levels) h.takes.state
 
-      by_own : (q : Result A ASN1Error) → SingleIs B S h.single q c'.reader → r ≡ some q → ChosenIs B S t c r c'
-      by_own (Ok v) k e = subst (λ x. ChosenIs B S t c x c') (sym e) (record {
-        prefix_before = encodings_of (take place l);
+      by_own : (q : Result A ASN1Error) → SingleIs B S h.single q c'.reader → r ≡ some q → ChosenIs B S (t ∷ []) c r c'
+      by_own (Ok v) k e = subst (λ x. ChosenIs B S (t ∷ []) c x c') (sym e) (record {
+        before = encodings_of (take place l);
         one = element.bytes.now;
         after = encodings_of (drop (suc place) l);
         whole = whole_is;
         others = others_are;
-        has_tag = tag_is;
+        has_tag = inl tag_is;
         encodes = subst (λ (y : Reading). B y.mode y.levels v y.left) h.takes.state k.encodes;
         reader = k.state ∙ ap (λ (y : Reading). record y { left = [] }) h.takes.state
             ∙ ap (λ (u : Option Tag). record c.reader { left = []; tag = u }) (sym fresh.1);
         found = subst (AreFound c.reader.levels c.reader.mode) (sym h.takes.others) split.1;
       })
-      by_own (Err d) k e = subst (λ x. ChosenIs B S t c x c') (sym e) (record {
-        prefix_before = encodings_of (take place l);
+      by_own (Err d) k e = subst (λ x. ChosenIs B S (t ∷ []) c x c') (sym e) (record {
+        before = encodings_of (take place l);
         one = element.bytes.now;
         after = encodings_of (drop (suc place) l);
         whole = whole_is;
-        has_tag = tag_is;
+        has_tag = inl tag_is;
         none = subst (λ (y : Reading). (kind_of d ≡ OutOfMemory → ⊥) → S y.mode y.levels y.left → ⊥) h.takes.state k.none;
         is_sticky = k.is_sticky;
       })
 
-  none_chosen : (r : Result (Option A) ASN1Error) → ReadsNone (t ∷ []) c r c' → ChosenIs B S t c r c'
-  none_chosen r h = subst (λ x. ChosenIs B S t c x c') (sym h.returned) (record {
+  none_chosen : (r : Result (Option A) ASN1Error) → ReadsNone (t ∷ []) c r c' → ChosenIs B S (t ∷ []) c r c'
+  none_chosen r h = subst (λ x. ChosenIs B S (t ∷ []) c x c') (sym h.returned) (record {
     none = none_has t c.reader.levels c.reader.mode c.list.items h.none found;
     others = h.others;
     reader = h.state ∙ ap (λ (u : Option Tag). record c.reader { tag = u }) (sym fresh.1);
   })
 
-  chosen_is : (r : Result (Option A) ASN1Error) → ReadsChosen N (t ∷ []) c r c' → ChosenIs B S t c r c'
+  chosen_is : (r : Result (Option A) ASN1Error) → ReadsChosen N (t ∷ []) c r c' → ChosenIs B S (t ∷ []) c r c'
   chosen_is r h = elim (subst (λ k. ReadsChosenBy k N (t ∷ []) c r c') fresh.0 h.reads) [
     | inl x ↦ taken r x
     | inr x ↦ none_chosen r x
@@ -283,15 +259,154 @@ chosen_called {A} g f N ts c r c' h obeys = record { reads = by_sticky c.reader.
     by_sticky None (inl x) = inl (record { single = x.single; takes = x.takes; own = x.own; reads = prefix_free x.single x.own c'.reader x.reads; returned = x.returned })
     by_sticky None (inr x) = inr x
 
--- where the tags are known
-pub chosen_under : {A : Type 0} (N : Does A) (t u : Tag) (c : SetReading) (r : Result (Option A) ASN1Error) (c' : SetReading) → u ≡ t →
-    ReadsChosen N (u ∷ []) c r c' → ReadsChosen N (t ∷ []) c r c'
-chosen_under N t u c r c' e h = subst (λ k. ReadsChosen N (k ∷ []) c r c') e h
+-- a part with one tag
+pub single_read : {A F : Type 0} {E : A → A → Type 0} {B : Grammar A} {S : Members}
+    (g : Once F (MutBor Reading × Unit {0}) (Result A ASN1Error × (MutBor Reading × Unit {0}))) (f : F) (laws : IsCoding E B S) (may_allocate : Bool) (N : Does A) →
+    IsDecoder may_allocate B S N → (t : Tag) (c : SetReading) (r : Result (Option A) ASN1Error) (c' : SetReading) →
+    ReadsChosen (FnOnceReturnsAtMut g f) (t ∷ []) c r c' →
+    ((p q : MutBor Reading) (x : Result A ASN1Error) → g.post f (p, tt) (x, (q, tt)) → N p.now x q.now) → ReadsSetPart (t ∷ []) B S c r c'
+single_read g f laws may_allocate N decoder t c r c' h obeys = record {
+  reads = λ fresh found. chosen_is laws may_allocate N decoder t c c' fresh found r (chosen_called g f N (t ∷ []) c r c' h obeys);
+}
 
-module _ {A V : Type 0} {t : Tag} {us : List Tag} {E : A → A → Type 0} {F : V → V → Type 0} {B : Grammar A} {C : Grammar V} {S M : Members}
-    {P : Pieced V} {f : Encoding A} {G : Fitting A} {can : A → Type 0} (x : IsNotation true (t ∷ []) E B S f G can) (whole : AreSingleElements S)
-    (y : AreSetParts us F C P M) (above : tag_precedes t us ≡ true) (none : share_none (t ∷ []) us ≡ true) (may_allocate : Bool) (N : Does A)
-    (decoder : IsDecoder may_allocate B S N) (c : SetReading) (r : Result (Option A) ASN1Error) (c1 : SetReading) (h : ReadsChosen N (t ∷ []) c r c1) where
+-- the same elements
+same_set : {A : Type 0} (B : Grammar A) (S : Members) (ts : List Tag) (c c1 : SetReading) (r : Result (Option A) ASN1Error) (c' : SetReading) →
+    c1.list.items ≡ c.list.items → c1.reader ≡ c.reader → ChosenIs B S ts c1 r c' → ChosenIs B S ts c r c'
+same_set B S ts c c1 (Ok (Some v)) c' items is k = record {
+  before = k.before;
+  one = k.one;
+  after = k.after;
+  whole = ap encodings_of (sym items) ∙ k.whole;
+  others = k.others;
+  has_tag = k.has_tag;
+  encodes = subst (λ (z : Reading). B z.mode z.levels v k.one) is k.encodes;
+  reader = k.reader ∙ ap (λ (z : Reading). record z { left = [] }) is;
+  found = subst (λ (z : Reading). AreFound z.levels z.mode c'.list.items) is k.found;
+}
+same_set B S ts c c1 (Ok None) c' items is k = record {
+  none = subst (λ l. AllByRecursion (λ b. BeginsWithOne ts b → ⊥) (encodings_of l)) items k.none;
+  others = k.others ∙ items;
+  reader = k.reader ∙ is;
+}
+same_set B S ts c c1 (Err e) c' items is k = record {
+  before = k.before;
+  one = k.one;
+  after = k.after;
+  whole = ap encodings_of (sym items) ∙ k.whole;
+  has_tag = k.has_tag;
+  none = subst (λ (z : Reading). (kind_of e ≡ OutOfMemory → ⊥) → S z.mode z.levels k.one → ⊥) is k.none;
+  is_sticky = k.is_sticky;
+}
+
+one_first : (ts us : List Tag) (b : List ℕ) → BeginsWithOne ts b → BeginsWithOne (ts ++ us) b
+one_first [] us b h = absurd h
+one_first (t ∷ ts) us b (inl h) = inl h
+one_first (t ∷ ts) us b (inr h) = inr (one_first ts us b h)
+
+one_second : (ts us : List Tag) (b : List ℕ) → BeginsWithOne us b → BeginsWithOne (ts ++ us) b
+one_second [] us b h = h
+one_second (t ∷ ts) us b h = inr (one_second ts us b h)
+
+one_of_both : (ts us : List Tag) (b : List ℕ) → BeginsWithOne (ts ++ us) b → BeginsWithOne ts b ⊎ BeginsWithOne us b
+one_of_both [] us b h = inr h
+one_of_both (t ∷ ts) us b (inl h) = inl (inl h)
+one_of_both (t ∷ ts) us b (inr h) = elim (one_of_both ts us b h) [ inl x ↦ inl (inr x) | inr x ↦ inr x ]
+
+none_of_both : (ts us : List Tag) (ps : List (List ℕ)) → AllByRecursion (λ b. BeginsWithOne ts b → ⊥) ps → AllByRecursion (λ b. BeginsWithOne us b → ⊥) ps →
+    AllByRecursion (λ b. BeginsWithOne (ts ++ us) b → ⊥) ps
+none_of_both ts us [] h k = tt
+none_of_both ts us (p ∷ ps) h k = (
+  λ b. elim (one_of_both ts us p b) [ inl x ↦ h.0 x | inr x ↦ k.0 x ],
+  none_of_both ts us ps h.1 k.1,
+)
+
+-- a value of one of two types
+abbrev pub ChoiceOf : {A V : Type 0} → Grammar A → Grammar V → Grammar (Either A V)
+ChoiceOf B C m n v b = EitherOf B C m n (sides v) b
+
+-- a part that is a CHOICE, of which the types have different tags
+module _ {A V : Type 0} {ts us : List Tag} (B : Grammar A) (C : Grammar V) {S Q : Members} (first_begins : BeginsBy ts S) (other_begins : BeginsBy us Q)
+    (none : share_none ts us ≡ true) (c : SetReading) (r : Result (Option A) ASN1Error) (c1 : SetReading) (h : ReadsSetPart ts B S c r c1) where
+  -- a value of the first type
+  pub first_read : (o : Option A) (v : A) → r ≡ Ok o → o ≡ Some v → ReadsSetPart (ts ++ us) (ChoiceOf B C) (AnyEither S Q) c (Ok (Some (First v))) c1
+  first_read o v is one = record {
+    reads = λ fresh found.
+        let k = subst (λ q. ChosenIs B S ts c q c1) (is ∙ ap (λ z. Ok z) one) (h.reads fresh found) in
+        record {
+          before = k.before;
+          one = k.one;
+          after = k.after;
+          whole = k.whole;
+          others = k.others;
+          has_tag = one_first ts us k.one k.has_tag;
+          encodes = k.encodes;
+          reader = k.reader;
+          found = k.found;
+        };
+  }
+
+  -- an element of the first type that is rejected
+  pub first_wrong : (e : ASN1Error) → r ≡ Err e → ReadsSetPart (ts ++ us) (ChoiceOf B C) (AnyEither S Q) c (Err e) c1
+  first_wrong e is = record {
+    reads = λ fresh found.
+        let k = subst (λ q. ChosenIs B S ts c q c1) is (h.reads fresh found) in
+        record {
+          before = k.before;
+          one = k.one;
+          after = k.after;
+          whole = k.whole;
+          has_tag = one_first ts us k.one k.has_tag;
+          none = λ q s. elim s [
+            | inl p ↦ k.none q p
+            | inr p ↦ no_common_tag ts us k.one none k.has_tag (other_begins.at c.reader.mode c.reader.levels k.one p)
+          ];
+          is_sticky = k.is_sticky;
+        };
+  }
+
+  other_is : (r2 : Result (Option V) ASN1Error) (c2 : SetReading) → ChoseNone ts c c1 → ChosenIs C Q us c r2 c2 →
+      ChosenIs (ChoiceOf B C) (AnyEither S Q) (ts ++ us) c (as_second r2) c2
+  other_is (Ok (Some w)) c2 i k = record {
+    before = k.before;
+    one = k.one;
+    after = k.after;
+    whole = k.whole;
+    others = k.others;
+    has_tag = one_second ts us k.one k.has_tag;
+    encodes = k.encodes;
+    reader = k.reader;
+    found = k.found;
+  }
+  other_is (Ok None) c2 i k = record { none = none_of_both ts us (encodings_of c.list.items) i.none k.none; others = k.others; reader = k.reader }
+  other_is (Err e) c2 i k = record {
+    before = k.before;
+    one = k.one;
+    after = k.after;
+    whole = k.whole;
+    has_tag = one_second ts us k.one k.has_tag;
+    none = λ q s. elim s [
+      | inl p ↦ no_common_tag ts us k.one none (first_begins.at c.reader.mode c.reader.levels k.one p) k.has_tag
+      | inr p ↦ k.none q p
+    ];
+    is_sticky = k.is_sticky;
+  }
+
+  -- a value of the others
+  pub other_read : (o : Option A) → r ≡ Ok o → o ≡ None → (r2 : Result (Option V) ASN1Error) (c2 : SetReading) → ReadsSetPart us C Q c1 r2 c2 →
+      ReadsSetPart (ts ++ us) (ChoiceOf B C) (AnyEither S Q) c (as_second r2) c2
+  other_read o is nothing r2 c2 k = record {
+    reads = λ fresh found.
+        let i = subst (λ q. ChosenIs B S ts c q c1) (is ∙ ap (λ z. Ok z) nothing) (h.reads fresh found) in
+        let now = subst IsFresh (sym i.reader) fresh in
+        let there = subst (λ (z : Reading). AreFound z.levels z.mode c1.list.items) (sym i.reader)
+        (subst (AreFound c.reader.levels c.reader.mode) (sym i.others) found) in
+        other_is r2 c2 i (same_set C Q us c c1 r2 c2 i.others i.reader (k.reads now there));
+  }
+
+module _ {A V : Type 0} {ts us : List Tag} {E : A → A → Type 0} {F : V → V → Type 0} {B : Grammar A} {C : Grammar V} {S M : Members}
+    {P : Pieced V} (x : IsCoding E B S) (begins : BeginsBy ts S) (whole : AreSingleElements S)
+    (y : AreSetParts us F C P M) (above : tags_precede ts us ≡ true) (none : share_none ts us ≡ true)
+    (c : SetReading) (c1 : SetReading) where
   abbrev m : BERMode
   m = c.reader.mode
 
@@ -301,38 +416,36 @@ module _ {A V : Type 0} {t : Tag} {us : List Tag} {E : A → A → Type 0} {F : 
   abbrev ps : List (List ℕ)
   ps = encodings_of c.list.items
 
-  chosen : (q : Result (Option A) ASN1Error) → r ≡ q → IsFresh c.reader → AreFound n m c.list.items → ChosenIs B S t c q c1
-  chosen q is fresh found = subst (λ k. ChosenIs B S t c k c1) is (chosen_is x.coding may_allocate N decoder t c c1 fresh found r h)
-
   -- the part's encoding is the element that was chosen
-  same_one : (v : A × V) (p : PickOf B P m n v ps) (a : List (List ℕ)) (b : List ℕ) (d : List (List ℕ)) → ps ≡ a ++ (b ∷ d) → BeginsWithTag t b →
+  same_one : (v : A × V) (p : PickOf B P m n v ps) (a : List (List ℕ)) (b : List ℕ) (d : List (List ℕ)) → ps ≡ a ++ (b ∷ d) → BeginsWithOne ts b →
       (a ≡ p.before) × (b ≡ p.one) × (d ≡ p.after)
-  same_one v p a b d e k = pick_once (BeginsWithTag t) a p.before b p.one d p.after (sym e ∙ p.joined) k
-      (others_without x whole y above none m n v.1 (p.before ++ p.after) p.more)
+  same_one v p a b d e k = pick_once (BeginsWithOne ts) a p.before b p.one d p.after (sym e ∙ p.joined) k
+      (others_without x begins whole y above none m n v.1 (p.before ++ p.after) p.more)
 
-  -- what has no part holds no element of its tag
-  not_without : (w : V) (a : List (List ℕ)) (b : List ℕ) (d : List (List ℕ)) → ps ≡ a ++ (b ∷ d) → BeginsWithTag t b → P m n w ps → ⊥
+  -- what has no part holds no element of its tags
+  not_without : (w : V) (a : List (List ℕ)) (b : List ℕ) (d : List (List ℕ)) → ps ≡ a ++ (b ∷ d) → BeginsWithOne ts b → P m n w ps → ⊥
   not_without w a b d e k p =
-      (all_others (λ z. BeginsWithTag t z → ⊥) a b d (subst (AllByRecursion (λ z. BeginsWithTag t z → ⊥)) e (others_without x whole y above none m n w ps p))).0 k
+      (all_others (λ z. BeginsWithOne ts z → ⊥) a b d (subst (AllByRecursion (λ z. BeginsWithOne ts z → ⊥)) e
+      (others_without x begins whole y above none m n w ps p))).0 k
 
-  not_within : (v : A × V) → AllByRecursion (λ z. BeginsWithTag t z → ⊥) ps → PickOf B P m n v ps → ⊥
+  not_within : (v : A × V) → AllByRecursion (λ z. BeginsWithOne ts z → ⊥) ps → PickOf B P m n v ps → ⊥
   not_within v without p =
-      (all_others (λ z. BeginsWithTag t z → ⊥) p.before p.one p.after (subst (AllByRecursion (λ z. BeginsWithTag t z → ⊥)) p.joined without)).0
-      (tagged x whole y above none m n v.0 p.one p.here)
+      (all_others (λ z. BeginsWithOne ts z → ⊥) p.before p.one p.after (subst (AllByRecursion (λ z. BeginsWithOne ts z → ⊥)) p.joined without)).0
+      (tagged x begins whole y above none m n v.0 p.one p.here)
 
-  wrong_none : (e : ASN1Error) → ChosenIs B S t c (Err e) c1 → (kind_of e ≡ OutOfMemory → ⊥) → (v : A × V) → PickOf B P m n v ps → ⊥
+  wrong_none : (e : ASN1Error) → ChosenIs B S ts c (Err e) c1 → (kind_of e ≡ OutOfMemory → ⊥) → (v : A × V) → PickOf B P m n v ps → ⊥
   wrong_none e k q v p =
-      let z = same_one v p k.prefix_before k.one k.after k.whole k.has_tag in
-      k.none q (subst (λ b. S m n b) (sym z.1) (x.coding.meaning.among m n v.0 p.one p.here))
+      let z = same_one v p k.before k.one k.after k.whole k.has_tag in
+      k.none q (subst (λ b. S m n b) (sym z.1) (x.meaning.among m n v.0 p.one p.here))
 
-  result_wrong : {U : Type 0} (e : ASN1Error) → ChosenIs B S t c (Err e) c1 → set_result {A = U} (Err e) c1 ≡ Err e
+  result_wrong : {U : Type 0} (e : ASN1Error) → ChosenIs B S ts c (Err e) c1 → set_result {A = U} (Err e) c1 ≡ Err e
   result_wrong e k = ap (λ z. unless_failed z (Err e)) k.is_sticky
 
-  result_none : {U : Type 0} (e : ASN1Error) → IsFresh c.reader → ChoseNone t c c1 → set_result {A = U} (Err e) c1 ≡ Err e
-  result_none e fresh k = ap (λ z. unless_failed z (Err e)) (ap (λ (z : Reading). z.failed) k.reader ∙ fresh.0)
+  result_unread : {U : Type 0} (e : ASN1Error) → c1.reader.failed ≡ None → set_result {A = U} (Err e) c1 ≡ Err e
+  result_unread e k = ap (λ z. unless_failed z (Err e)) k
 
   -- what was read of the others
-  after : (v : A) (r2 : Result V ASN1Error) (c2 : SetReading) → IsFresh c.reader → Chose (B m n) t c v c1 → ReadsSetParts P c1 r2 c2 →
+  after : (v : A) (r2 : Result V ASN1Error) (c2 : SetReading) → IsFresh c.reader → Chose (B m n) ts c v c1 → ReadsSetParts P c1 r2 c2 →
       ReadsPicks (P m n) (encodings_of c1.list.items) (set_result r2 c2)
   after v r2 c2 fresh k s =
       let is = k.reader in
@@ -340,7 +453,7 @@ module _ {A V : Type 0} {t : Tag} {us : List Tag} {E : A → A → Type 0} {F : 
       let there = subst (λ (z : Reading). AreFound z.levels z.mode c1.list.items) (sym is) k.found in
       subst (λ (z : Reading). ReadsPicks (P z.mode z.levels) (encodings_of c1.list.items) (set_result r2 c2)) is (s.reads now there)
 
-  after_none : (r2 : Result V ASN1Error) (c2 : SetReading) → IsFresh c.reader → AreFound n m c.list.items → ChoseNone t c c1 → ReadsSetParts P c1 r2 c2 →
+  after_none : (r2 : Result V ASN1Error) (c2 : SetReading) → IsFresh c.reader → AreFound n m c.list.items → ChoseNone ts c c1 → ReadsSetParts P c1 r2 c2 →
       ReadsPicks (P m n) ps (set_result r2 c2)
   after_none r2 c2 fresh found k s =
       let is = k.reader in
@@ -349,9 +462,9 @@ module _ {A V : Type 0} {t : Tag} {us : List Tag} {E : A → A → Type 0} {F : 
       subst (λ l. ReadsPicks (P m n) (encodings_of l) (set_result r2 c2)) k.others
       (subst (λ (z : Reading). ReadsPicks (P z.mode z.levels) (encodings_of c1.list.items) (set_result r2 c2)) is (s.reads now there))
 
-  both : (v : A) (z : Result V ASN1Error) → Chose (B m n) t c v c1 → ReadsPicks (P m n) (encodings_of c1.list.items) z → ReadsPicks (PickOf B P m n) ps (paired v z)
+  both : (v : A) (z : Result V ASN1Error) → Chose (B m n) ts c v c1 → ReadsPicks (P m n) (encodings_of c1.list.items) z → ReadsPicks (PickOf B P m n) ps (paired v z)
   both v (Ok w) k i = record {
-    before = k.prefix_before;
+    before = k.before;
     one = k.one;
     after = k.after;
     joined = k.whole;
@@ -359,75 +472,212 @@ module _ {A V : Type 0} {t : Tag} {us : List Tag} {E : A → A → Type 0} {F : 
     more = subst (λ qs. P m n w qs) k.others i;
   }
   both v (Err e) k i = λ q u p.
-      let z = same_one u p k.prefix_before k.one k.after k.whole k.has_tag in
+      let z = same_one u p k.before k.one k.after k.whole k.has_tag in
       i q u.1 (subst (λ qs. P m n u.1 qs) (sym (k.others ∙ ap₂ (λ a b. a ++ b) z.0 z.2)) p.more)
 
-  -- a mandatory part whose element is rejected
-  pub part_wrong : (e : ASN1Error) → r ≡ Err e → ReadsSetParts (PickOf B P) c (Err e) c1
-  part_wrong e is = record {
+  module _ (r : Result (Option A) ASN1Error) (h : ReadsSetPart ts B S c r c1) where
+    chosen : (q : Result (Option A) ASN1Error) → r ≡ q → IsFresh c.reader → AreFound n m c.list.items → ChosenIs B S ts c q c1
+    chosen q is fresh found = subst (λ k. ChosenIs B S ts c k c1) is (h.reads fresh found)
+
+    -- a mandatory part whose element is rejected
+    pub part_wrong : (e : ASN1Error) → r ≡ Err e → ReadsSetParts (PickOf B P) c (Err e) c1
+    part_wrong e is = record {
+      reads = λ fresh found.
+          let k = chosen (Err e) is fresh found in
+          subst (ReadsPicks (PickOf B P m n) ps) (sym (result_wrong e k)) (λ q v p. wrong_none e k q v p);
+    }
+
+    -- a mandatory part that is missing
+    pub part_missing : (o : Option A) → r ≡ Ok o → o ≡ None → (e : ASN1Error) → ReadsSetParts (PickOf B P) c (Err e) c1
+    part_missing o is nothing e = record {
+      reads = λ fresh found.
+          let k = chosen (Ok None) (is ∙ ap (λ z. Ok z) nothing) fresh found in
+          subst (ReadsPicks (PickOf B P m n) ps) (sym (result_unread e (ap (λ (z : Reading). z.failed) k.reader ∙ fresh.0))) (λ q v p. not_within v k.none p);
+    }
+
+    -- a mandatory part that was read, before the others
+    pub part_read : (o : Option A) (v : A) → r ≡ Ok o → o ≡ Some v → (r2 : Result V ASN1Error) (c2 : SetReading) → ReadsSetParts P c1 r2 c2 →
+        ReadsSetParts (PickOf B P) c (paired v r2) c2
+    part_read o v is one r2 c2 s = record {
+      reads = λ fresh found.
+          let k = chosen (Ok (Some v)) (is ∙ ap (λ z. Ok z) one) fresh found in
+          subst (ReadsPicks (PickOf B P m n) ps) (paired_result v r2 c2.reader.failed c2.list.items) (both v (set_result r2 c2) k (after v r2 c2 fresh k s));
+    }
+
+    maybe_wrong : (e : ASN1Error) → ChosenIs B S ts c (Err e) c1 → (kind_of e ≡ OutOfMemory → ⊥) → (o : Option A) (w : V) → PickMaybe (B m n) (P m n w) o ps → ⊥
+    maybe_wrong e k q (Some v) w p = wrong_none e k q (v, w) p
+    maybe_wrong e k q None w p = not_without w k.before k.one k.after k.whole k.has_tag p
+
+    maybe_both : (v : A) (z : Result V ASN1Error) → Chose (B m n) ts c v c1 → ReadsPicks (P m n) (encodings_of c1.list.items) z →
+        ReadsPicks (OptionPick B P m n) ps (paired (Some v) z)
+    maybe_both v (Ok w) k i = both v (Ok w) k i
+    maybe_both v (Err e) k i = λ q u p. by_part q u.0 u.1 p
+      where
+        by_part : (kind_of e ≡ OutOfMemory → ⊥) → (o : Option A) (w : V) → PickMaybe (B m n) (P m n w) o ps → ⊥
+        by_part q (Some u) w p = both v (Err e) k i q (u, w) p
+        by_part q None w p = not_without w k.before k.one k.after k.whole k.has_tag p
+
+    maybe_none : (z : Result V ASN1Error) → ChoseNone ts c c1 → ReadsPicks (P m n) ps z → ReadsPicks (OptionPick B P m n) ps (paired None z)
+    maybe_none (Ok w) k i = i
+    maybe_none (Err e) k i = λ q u p. by_part q u.0 u.1 p
+      where
+        by_part : (kind_of e ≡ OutOfMemory → ⊥) → (o : Option A) (w : V) → PickMaybe (B m n) (P m n w) o ps → ⊥
+        by_part q (Some u) w p = not_within (u, w) k.none p
+        by_part q None w p = i q w p
+
+    -- an OPTIONAL part whose element is rejected
+    pub option_wrong : (e : ASN1Error) → r ≡ Err e → ReadsSetParts (OptionPick B P) c (Err e) c1
+    option_wrong e is = record {
+      reads = λ fresh found.
+          let k = chosen (Err e) is fresh found in
+          subst (ReadsPicks (OptionPick B P m n) ps) (sym (result_wrong e k)) (λ q v p. maybe_wrong e k q v.0 v.1 p);
+    }
+
+    -- an OPTIONAL part that was read or is omitted, before the others
+    pub option_read : (o : Option A) → r ≡ Ok o → (r2 : Result V ASN1Error) (c2 : SetReading) → ReadsSetParts P c1 r2 c2 →
+        ReadsSetParts (OptionPick B P) c (paired o r2) c2
+    option_read (Some v) is r2 c2 s = record {
+      reads = λ fresh found.
+          let k = chosen (Ok (Some v)) is fresh found in
+          subst (ReadsPicks (OptionPick B P m n) ps) (paired_result (Some v) r2 c2.reader.failed c2.list.items)
+          (maybe_both v (set_result r2 c2) k (after v r2 c2 fresh k s));
+    }
+    option_read None is r2 c2 s = record {
+      reads = λ fresh found.
+          let k = chosen (Ok None) is fresh found in
+          subst (ReadsPicks (OptionPick B P m n) ps) (paired_result None r2 c2.reader.failed c2.list.items)
+          (maybe_none (set_result r2 c2) k (after_none r2 c2 fresh found k s));
+    }
+
+-- whether the default that was read is rejected
+rejected : {A : Type 0} (is : A → Bool) (d : A) (m : BERMode) (v : A) → value_or_default is d m (Some v) ≡ None → (TakesDefault m → ⊥) × (is v ≡ true)
+rejected is d Ber v e = absurd (cc)
+rejected is d Der v e = (λ t. t, by_test (is v) e)
+  where
+    by_test : (b : Bool) → (if b then None else Some v) ≡ None → b ≡ true
+    by_test true e = refl
+    by_test false e = absurd (cc)
+rejected is d Cer v e = (λ t. t, by_test (is v) e)
+  where
+    by_test : (b : Bool) → (if b then None else Some v) ≡ None → b ≡ true
+    by_test true e = refl
+    by_test false e = absurd (cc)
+
+accepted : {A : Type 0} (is : A → Bool) (d : A) (m : BERMode) (v w : A) → value_or_default is d m (Some v) ≡ Some w →
+    (v ≡ w) × (TakesDefault m ⊎ (is v ≡ false))
+accepted is d Ber v w e = (let f : v ≡ w = cc in f, inl tt)
+accepted {A} is d Der v w e = by_test (is v) refl e
+  where
+    by_test : (b : Bool) → is v ≡ b → (if b then None else Some v) ≡ Some w → (v ≡ w) × (TakesDefault Der ⊎ (is v ≡ false))
+    by_test true f e = absurd (cc)
+    by_test false f e = (let g : v ≡ w = cc in g, inr f)
+accepted {A} is d Cer v w e = by_test (is v) refl e
+  where
+    by_test : (b : Bool) → is v ≡ b → (if b then None else Some v) ≡ Some w → (v ≡ w) × (TakesDefault Cer ⊎ (is v ≡ false))
+    by_test true f e = absurd (cc)
+    by_test false f e = (let g : v ≡ w = cc in g, inr f)
+
+module _ {A V : Type 0} {ts us : List Tag} {E : A → A → Type 0} {F : V → V → Type 0} {B : Grammar A} {C : Grammar V} {S M : Members}
+    {P : Pieced V} (is : A → Bool) (d : A) (detects : DetectsDefault E is d) (x : IsCoding E B S) (begins : BeginsBy ts S) (whole : AreSingleElements S)
+    (y : AreSetParts us F C P M) (above : tags_precede ts us ≡ true) (none : share_none ts us ≡ true)
+    (c : SetReading) (c1 : SetReading) (r : Result (Option A) ASN1Error) (h : ReadsSetPart ts B S c r c1) where
+  abbrev k : BERMode
+  k = c.reader.mode
+
+  abbrev l : ℕ
+  l = c.reader.levels
+
+  abbrev qs : List (List ℕ)
+  qs = encodings_of c.list.items
+
+  abbrev z : IsCoding E (UnlessDefault is B) S
+  z = unless_default is x
+
+  default_is : (q : Result (Option A) ASN1Error) → r ≡ q → IsFresh c.reader → AreFound l k c.list.items → ChosenIs B S ts c q c1
+  default_is q e fresh found = subst (λ w. ChosenIs B S ts c w c1) e (h.reads fresh found)
+
+  wrong_default : (e : ASN1Error) → ChosenIs B S ts c (Err e) c1 → (kind_of e ≡ OutOfMemory → ⊥) → (v : A × V) → DefaultPick is B P k l v qs → ⊥
+  wrong_default e i q v (inl p) = wrong_none z begins whole y above none c c1 e i q v p
+  wrong_default e i q v (inr p) = not_without z begins whole y above none c c1 v.1 i.before i.one i.after i.whole i.has_tag p.0
+
+  -- a part with a default whose element is rejected
+  pub default_wrong : (e : ASN1Error) → r ≡ Err e → ReadsSetParts (DefaultPick is B P) c (Err e) c1
+  default_wrong e at = record {
     reads = λ fresh found.
-        let k = chosen (Err e) is fresh found in
-        subst (ReadsPicks (PickOf B P m n) ps) (sym (result_wrong e k)) (λ q v p. wrong_none e k q v p);
+        let i = default_is (Err e) at fresh found in
+        subst (ReadsPicks (DefaultPick is B P k l) qs) (sym (result_wrong z begins whole y above none c c1 e i)) (λ q v p. wrong_default e i q v p);
   }
 
-  -- a mandatory part that is missing
-  pub part_missing : (o : Option A) → r ≡ Ok o → o ≡ None → (e : ASN1Error) → ReadsSetParts (PickOf B P) c (Err e) c1
-  part_missing o is none e = record {
+  -- the default that was read encodes no value, if the mode rejects it
+  not_default : (v : A) → Chose (B k l) ts c v c1 → (TakesDefault k → ⊥) → is v ≡ true → (u : A × V) → DefaultPick is B P k l u qs → ⊥
+  not_default v i never e u (inl p) =
+      let o = same_one z begins whole y above none c c1 u p i.before i.one i.after i.whole i.has_tag in
+      let same = x.meaning.exact k l l v u.0 p.one (subst (λ b. B k l v b) o.1 i.encodes) p.here.0 in
+      let also = (detects u.0).1 (x.meaning.equal.transitive u.0 v d (x.meaning.equal.symmetric v u.0 same) ((detects v).0 e)) in
+      elim p.here.1 [
+        | inl t ↦ never t
+        | inr f ↦ not_both (is u.0) also f
+      ]
+  not_default v i never e u (inr p) = not_without z begins whole y above none c c1 u.1 i.before i.one i.after i.whole i.has_tag p.0
+
+  -- the encoding of a default, which the mode rejects
+  pub default_rejected : (o : Option A) → r ≡ Ok o → value_or_default is d c1.reader.mode o ≡ None → (e : ASN1Error) → ReadsSetParts (DefaultPick is B P) c (Err e) c1
+  default_rejected (Some v) at none_is e = record {
     reads = λ fresh found.
-        let k = chosen (Ok None) (is ∙ ap (λ z. Ok z) none) fresh found in
-        subst (ReadsPicks (PickOf B P m n) ps) (sym (result_none e fresh k)) (λ q v p. not_within v k.none p);
+        let i = default_is (Ok (Some v)) at fresh found in
+        let mode = ap (λ (w : Reading). w.mode) i.reader in
+        let j = rejected is d k v (subst (λ o. value_or_default is d o (Some v) ≡ None) mode none_is) in
+        subst (ReadsPicks (DefaultPick is B P k l) qs)
+        (sym (result_unread z begins whole y above none c c1 e (ap (λ (w : Reading). w.failed) i.reader ∙ fresh.0)))
+        (λ q u p. not_default v i j.0 j.1 u p);
   }
+  default_rejected None at none_is e = absurd (cc)
 
-  -- a mandatory part that was read, before the others
-  pub part_read : (o : Option A) (v : A) → r ≡ Ok o → o ≡ Some v → (r2 : Result V ASN1Error) (c2 : SetReading) → ReadsSetParts P c1 r2 c2 →
-      ReadsSetParts (PickOf B P) c (paired v r2) c2
-  part_read o v is one r2 c2 s = record {
-    reads = λ fresh found.
-        let k = chosen (Ok (Some v)) (is ∙ ap (λ z. Ok z) one) fresh found in
-        subst (ReadsPicks (PickOf B P m n) ps) (paired_result v r2 c2.reader.failed c2.list.items) (both v (set_result r2 c2) k (after v r2 c2 fresh k s));
-  }
-
-  maybe_wrong : (e : ASN1Error) → ChosenIs B S t c (Err e) c1 → (kind_of e ≡ OutOfMemory → ⊥) → (o : Option A) (w : V) → PickMaybe (B m n) (P m n w) o ps → ⊥
-  maybe_wrong e k q (Some v) w p = wrong_none e k q (v, w) p
-  maybe_wrong e k q None w p = not_without w k.prefix_before k.one k.after k.whole k.has_tag p
-
-  maybe_both : (v : A) (z : Result V ASN1Error) → Chose (B m n) t c v c1 → ReadsPicks (P m n) (encodings_of c1.list.items) z →
-      ReadsPicks (OptionPick B P m n) ps (paired (Some v) z)
-  maybe_both v (Ok w) k i = both v (Ok w) k i
-  maybe_both v (Err e) k i = λ q u p. by_part q u.0 u.1 p
+  default_both : (v : A) (w : Result V ASN1Error) → Chose (UnlessDefault is B k l) ts c v c1 → ReadsPicks (P k l) (encodings_of c1.list.items) w →
+      ReadsPicks (DefaultPick is B P k l) qs (paired v w)
+  default_both v (Ok w) i j = inl (both z begins whole y above none c c1 v (Ok w) i j)
+  default_both v (Err e) i j = λ q u p. by_part q u p
     where
-      by_part : (kind_of e ≡ OutOfMemory → ⊥) → (o : Option A) (w : V) → PickMaybe (B m n) (P m n w) o ps → ⊥
-      by_part q (Some u) w p = both v (Err e) k i q (u, w) p
-      by_part q None w p = not_without w k.prefix_before k.one k.after k.whole k.has_tag p
+      by_part : (kind_of e ≡ OutOfMemory → ⊥) → (u : A × V) → DefaultPick is B P k l u qs → ⊥
+      by_part q u (inl p) = both z begins whole y above none c c1 v (Err e) i j q u p
+      by_part q u (inr p) = not_without z begins whole y above none c c1 u.1 i.before i.one i.after i.whole i.has_tag p.0
 
-  maybe_none : (z : Result V ASN1Error) → ChoseNone t c c1 → ReadsPicks (P m n) ps z → ReadsPicks (OptionPick B P m n) ps (paired None z)
-  maybe_none (Ok w) k i = i
-  maybe_none (Err e) k i = λ q u p. by_part q u.0 u.1 p
+  default_none : (w : Result V ASN1Error) → ChoseNone ts c c1 → ReadsPicks (P k l) qs w → ReadsPicks (DefaultPick is B P k l) qs (paired d w)
+  default_none (Ok w) i j = inr (j, (detects d).1 (x.meaning.equal.reflexive d))
+  default_none (Err e) i j = λ q u p. by_part q u p
     where
-      by_part : (kind_of e ≡ OutOfMemory → ⊥) → (o : Option A) (w : V) → PickMaybe (B m n) (P m n w) o ps → ⊥
-      by_part q (Some u) w p = not_within (u, w) k.none p
-      by_part q None w p = i q w p
+      by_part : (kind_of e ≡ OutOfMemory → ⊥) → (u : A × V) → DefaultPick is B P k l u qs → ⊥
+      by_part q u (inl p) = not_within z begins whole y above none c c1 u i.none p
+      by_part q u (inr p) = j q u.1 p.0
 
-  -- an OPTIONAL part whose element is rejected
-  pub option_wrong : (e : ASN1Error) → r ≡ Err e → ReadsSetParts (OptionPick B P) c (Err e) c1
-  option_wrong e is = record {
+  -- a part with a default that was read or is omitted, before the others
+  pub default_read : (o : Option A) (w : A) → r ≡ Ok o → value_or_default is d c1.reader.mode o ≡ Some w → (r2 : Result V ASN1Error) (c2 : SetReading) →
+      ReadsSetParts P c1 r2 c2 → ReadsSetParts (DefaultPick is B P) c (paired w r2) c2
+  default_read (Some v) w at value r2 c2 s = record {
     reads = λ fresh found.
-        let k = chosen (Err e) is fresh found in
-        subst (ReadsPicks (OptionPick B P m n) ps) (sym (result_wrong e k)) (λ q v p. maybe_wrong e k q v.0 v.1 p);
+        let i = default_is (Ok (Some v)) at fresh found in
+        let mode = ap (λ (u : Reading). u.mode) i.reader in
+        let j = accepted is d k v w (subst (λ o. value_or_default is d o (Some v) ≡ Some w) mode value) in
+        let encoded : Chose (UnlessDefault is B k l) ts c v c1 = record {
+          before = i.before;
+          one = i.one;
+          after = i.after;
+          whole = i.whole;
+          others = i.others;
+          has_tag = i.has_tag;
+          encodes = (i.encodes, j.1);
+          reader = i.reader;
+          found = i.found;
+        } in
+        subst (λ u. ReadsPicks (DefaultPick is B P k l) qs (set_result (paired u r2) c2)) j.0
+        (subst (ReadsPicks (DefaultPick is B P k l) qs) (paired_result v r2 c2.reader.failed c2.list.items)
+        (default_both v (set_result r2 c2) encoded (after x begins whole y above none c c1 v r2 c2 fresh i s)));
   }
-
-  -- an OPTIONAL part that was read or is omitted, before the others
-  pub option_read : (o : Option A) → r ≡ Ok o → (r2 : Result V ASN1Error) (c2 : SetReading) → ReadsSetParts P c1 r2 c2 →
-      ReadsSetParts (OptionPick B P) c (paired o r2) c2
-  option_read (Some v) is r2 c2 s = record {
+  default_read None w at value r2 c2 s = record {
     reads = λ fresh found.
-        let k = chosen (Ok (Some v)) is fresh found in
-        subst (ReadsPicks (OptionPick B P m n) ps) (paired_result (Some v) r2 c2.reader.failed c2.list.items)
-        (maybe_both v (set_result r2 c2) k (after v r2 c2 fresh k s));
-  }
-  option_read None is r2 c2 s = record {
-    reads = λ fresh found.
-        let k = chosen (Ok None) is fresh found in
-        subst (ReadsPicks (OptionPick B P m n) ps) (paired_result None r2 c2.reader.failed c2.list.items)
-        (maybe_none (set_result r2 c2) k (after_none r2 c2 fresh found k s));
+        let i = default_is (Ok None) at fresh found in
+        let same : d ≡ w = cc in
+        subst (λ u. ReadsPicks (DefaultPick is B P k l) qs (set_result (paired u r2) c2)) same
+        (subst (ReadsPicks (DefaultPick is B P k l) qs) (paired_result d r2 c2.reader.failed c2.list.items)
+        (default_none (set_result r2 c2) i (after_none x begins whole y above none c c1 r2 c2 fresh found i s)));
   }

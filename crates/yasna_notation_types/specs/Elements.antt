@@ -1,5 +1,5 @@
 -- Types each of whose encodings is one element (X.690, 8.1.1): the elements of a SET are found before they are read.
-use Rattle.std.proofs.Common.{◌≡◌, ◌∷◌, ◌++◌, [], ◌<◌, ◌^◌, ◌&&◌, ℕ, zero, suc, List, Bool, true, Option, Some, None, inl, inr, refl, sym, ap, ◌∙◌, append-nil, arith}
+use Rattle.std.proofs.Common.{◌≡◌, ◌∷◌, ◌++◌, [], ◌<◌, ◌^◌, ◌&&◌, ℕ, zero, suc, List, Bool, true, false, Option, Some, None, inl, inr, refl, sym, ap, ◌∙◌, append-nil, arith}
 use Rattle.std.proofs.lemmas.Bool.{and_parts}
 use Rattle.std.specs.List.{concat}
 use Rattle.yasna_base.specs.declared.mode.BERMode.{BERMode}
@@ -236,3 +236,18 @@ pub option_joins : {S Q : Members} {a b : Bool} (tags_known others none : Bool) 
 option_joins {a = a} {b = b} tags_known others none x y e =
     let z = and_parts a b (is_known tags_known others none (a && b) e).all_unambiguous in
     option_joined (x z.0) (y z.1)
+
+-- the last type of a CHOICE
+pub last_element : {S : Members} {a : Bool} (tags_known : Bool) → (a ≡ true → AreSingleElements S) → tags_known && a ≡ true → AreSingleElements S
+last_element {a = a} tags_known x e = x (and_parts tags_known a e).1
+
+-- a type of a CHOICE, and others by other tags
+pub either_element : {S Q : Members} {a b : Bool} (tags_known none : Bool) → (a ≡ true → AreSingleElements S) → (b ≡ true → AreSingleElements Q) →
+    tags_known && (none && (a && b)) ≡ true → AreSingleElements (AnyEither S Q)
+either_element {a = a} {b = b} tags_known none x y e =
+    let z = and_parts a b (and_parts none (a && b) (and_parts tags_known (none && (a && b)) e).1).1 in
+    either_elements (x z.0) (y z.1)
+
+-- a CHOICE: no tag may be in place of those of its types
+pub choice_elements : {S : Members} → AreSingleElements S → AreElementsAs false (λ u. S)
+choice_elements x = record { own = x; others = λ e. absurd (cc) }

@@ -4,14 +4,15 @@ use Rattle.std.proofs.lemmas.Bool.{and_parts}
 use Rattle.std.specs.List.{AllByRecursion, concat}
 use Rattle.std.specs.List.Sorted.{IsSorted}
 use Rattle.std.specs.Ordering.{is_lt}
-use Rattle.std.specs.Prelude.{slice_index_or}
+use Rattle.std.specs.Prelude.{slice_index_or, ◌⊎◌}
 use Rattle.yasna_base.specs.declared.mode.BERMode.{BERMode}
 use Rattle.yasna_base.specs.declared.mode.BERMode.TheVariants.{Ber, Der, Cer}
 use Rattle.yasna_base.specs.declared.tag.Tag.{Tag}
 use Rattle.yasna_base.specs.Beginnings.{BeginsWithOne, BeginsBy, share_none}
 use Rattle.yasna_base.specs.Canonical.{IsCanonicalMode, IsWritten}
 use Rattle.yasna_base.specs.Choice.{AnyEither}
-use Rattle.yasna_base.specs.Coding.{IsSame, IsContentsCoding, IsPrefixFree, Any}
+use Rattle.yasna_base.specs.Coding.{IsSame, IsCoding, IsContentsCoding, IsPrefixFree, Any}
+use Rattle.yasna_base.specs.Default.{TakesDefault, DetectsDefault, DefaultOf}
 use Rattle.yasna_base.specs.Exact.{Fitting, IsExact}
 use Rattle.yasna_base.specs.Grammar.{Grammar, Members, Encoding, Depth}
 use Rattle.yasna_base.specs.Identifier.{BeginsWithTag, StartsElement, nothing}
@@ -68,6 +69,14 @@ PickMaybe R Q None ps = Q ps
 abbrev pub OptionPick : {A V : Type 0} → Grammar A → Pieced V → Pieced (Option A × V)
 OptionPick B P m n v ps = PickMaybe (B m n) (P m n v.1) v.0 ps
 
+-- an encoding that is there: in DER and CER it isn't that of the default
+abbrev pub UnlessDefault : {A : Type 0} → (A → Bool) → Grammar A → Grammar A
+UnlessDefault is B m n v b = B m n v b × (TakesDefault m ⊎ (is v ≡ false))
+
+-- one of them encodes a part with a default, or the part is omitted and the value is the default
+abbrev pub DefaultPick : {A V : Type 0} → (A → Bool) → Grammar A → Pieced V → Pieced (A × V)
+DefaultPick is B P m n v ps = PickOf (UnlessDefault is B) P m n v ps ⊎ (P m n v.1 ps × (is v.0 ≡ true))
+
 -- the tags with which they begin are in the order that the mode requires of a SET
 pub record InTagOrder (m : BERMode) (ps : List (List ℕ)) : Type 0 where
   pub tags : List Tag
@@ -85,6 +94,11 @@ pub record SetOfParts {V : Type 0} (P : Pieced V) (m : BERMode) (n : ℕ) (v : V
 abbrev pub tag_precedes : Tag → List Tag → Bool
 tag_precedes t [] = true
 tag_precedes t (u ∷ us) = (is_lt (tag_cmp t u) && not (is_lt (tag_cmp u t))) && tag_precedes t us
+
+-- each of some tags comes before each of the others
+abbrev pub tags_precede : List Tag → List Tag → Bool
+tags_precede [] us = true
+tags_precede (t ∷ ts) us = tag_precedes t us && tags_precede ts us
 
 -- no tag comes before the one that precedes it
 abbrev pub Ascend : List Tag → Type 0
@@ -190,7 +204,7 @@ not_true : (b : Bool) → not b ≡ true → b ≡ false
 not_true true e = absurd (cc)
 not_true false e = refl
 
-not_both : (b : Bool) → b ≡ true → b ≡ false → ⊥
+pub not_both : (b : Bool) → b ≡ true → b ≡ false → ⊥
 not_both true e f = absurd (cc)
 not_both false e f = absurd (cc)
 
@@ -243,48 +257,53 @@ all_prefix : {X : Type 0} (P : X → Type 0) (a b : List X) → AllByRecursion P
 all_prefix P [] b h = tt
 all_prefix P (x ∷ a) b h = (h.0, all_prefix P a b h.1)
 
--- the laws of a type with one tag
-pub one_tagged : {A : Type 0} {tags_known : Bool} {ts : List Tag} {t : Tag} {E : A → A → Type 0} {B : Grammar A} {S : Members} {f : Encoding A} {G : Fitting A}
-    {c : A → Type 0} → tags_known ≡ true → ts ≡ t ∷ [] → IsNotation tags_known ts E B S f G c → IsNotation true (t ∷ []) E B S f G c
-one_tagged {ts = ts} {t = t} {E = E} {B = B} {S = S} {f = f} {G = G} {c = c} is one x =
-    subst (λ us. IsNotation true us E B S f G c) one (subst (λ z. IsNotation z ts E B S f G c) is x)
+-- each encoding is one element
+abbrev pub AreSingleElements : Members → Type 0
+AreSingleElements S = (m : BERMode) (n : ℕ) (b : List ℕ) → S m n b → (v : RawValue) × IsRaw m n v b
 
-module _ {A V : Type 0} {t : Tag} {us : List Tag} {E : A → A → Type 0} {F : V → V → Type 0} {B : Grammar A} {C : Grammar V} {S M : Members}
-    {P : Pieced V} {f : Encoding A} {G : Fitting A} {c : A → Type 0} (x : IsNotation true (t ∷ []) E B S f G c)
-    (whole : (m : BERMode) (n : ℕ) (b : List ℕ) → S m n b → (v : RawValue) × IsRaw m n v b) (y : AreSetParts us F C P M)
-    (above : tag_precedes t us ≡ true) (none : share_none (t ∷ []) us ≡ true) where
-  has_tag : (m : BERMode) (n : ℕ) (b : List ℕ) → S m n b → BeginsWithTag t b
-  has_tag m n b p = by_one ((x.begins refl).at m n b p)
-    where
-      by_one : BeginsWithOne (t ∷ []) b → BeginsWithTag t b
-      by_one (inl z) = z
-      by_one (inr z) = absurd z
+-- a tag with which x begins, and all of some others come after it
+record Precedes (x : List ℕ) (ps : List (List ℕ)) : Type 0 where
+  tag : Tag
+  begins : BeginsWithTag tag x
+  others : AllByRecursion (After tag) ps
 
-  pub tagged : (m : BERMode) (n : ℕ) (v : A) (b : List ℕ) → B m n v b → BeginsWithTag t b
-  tagged m n v b p = has_tag m n b (x.coding.meaning.among m n v b p)
+precedes : (ts us : List Tag) (x : List ℕ) (ps : List (List ℕ)) → tags_precede ts us ≡ true → BeginsWithOne ts x → AllByRecursion (BeginsWithOne us) ps →
+    Precedes x ps
+precedes [] us x ps e b h = absurd b
+precedes (t ∷ ts) us x ps e (inl b) h =
+    let y = and_parts (tag_precedes t us) (tags_precede ts us) e in
+    record { tag = t; begins = b; others = all_so (BeginsWithOne us) (After t) (λ z k. after_of t us z y.0 k) ps h }
+precedes (t ∷ ts) us x ps e (inr b) h = precedes ts us x ps (and_parts (tag_precedes t us) (tags_precede ts us) e).1 b h
 
-  -- no other has the tag, and all come after it
-  pub others_without : (m : BERMode) (n : ℕ) (w : V) (ps : List (List ℕ)) → P m n w ps → AllByRecursion (λ z. BeginsWithTag t z → ⊥) ps
+module _ {A V : Type 0} {ts us : List Tag} {E : A → A → Type 0} {F : V → V → Type 0} {B : Grammar A} {C : Grammar V} {S M : Members}
+    {P : Pieced V} (x : IsCoding E B S) (begins : BeginsBy ts S) (whole : AreSingleElements S) (y : AreSetParts us F C P M)
+    (above : tags_precede ts us ≡ true) (none : share_none ts us ≡ true) where
+  pub tagged : (m : BERMode) (n : ℕ) (v : A) (b : List ℕ) → B m n v b → BeginsWithOne ts b
+  tagged m n v b p = begins.at m n b (x.meaning.among m n v b p)
+
+  -- no other has one of the tags, and all come after them
+  pub others_without : (m : BERMode) (n : ℕ) (w : V) (ps : List (List ℕ)) → P m n w ps → AllByRecursion (λ z. BeginsWithOne ts z → ⊥) ps
   others_without m n w ps p =
-      all_so (M m n) (λ z. BeginsWithTag t z → ⊥) (λ z k h. no_common_tag (t ∷ []) us z none (inl h) (y.begins.at m n z k)) ps (y.within m n w ps p)
+      all_so (M m n) (λ z. BeginsWithOne ts z → ⊥) (λ z k h. no_common_tag ts us z none h (y.begins.at m n z k)) ps (y.within m n w ps p)
 
-  all_after : (m : BERMode) (n : ℕ) (w : V) (ps : List (List ℕ)) → P m n w ps → AllByRecursion (After t) ps
-  all_after m n w ps p = all_so (M m n) (After t) (λ z k. after_of t us z above (y.begins.at m n z k)) ps (y.within m n w ps p)
+  all_after : (m : BERMode) (n : ℕ) (v : A) (w : V) (b : List ℕ) (ps : List (List ℕ)) → B m n v b → P m n w ps → Precedes b ps
+  all_after m n v w b ps q p =
+      precedes ts us b ps above (tagged m n v b q) (all_so (M m n) (BeginsWithOne us) (λ z k. y.begins.at m n z k) ps (y.within m n w ps p))
 
   part_within : (m : BERMode) (n : ℕ) (v : A × V) (ps : List (List ℕ)) → PickOf B P m n v ps → AllByRecursion (AnyEither S M m n) ps
   part_within m n v ps p =
       subst (AllByRecursion (AnyEither S M m n)) (sym p.joined)
-      (all_with (AnyEither S M m n) p.before p.one p.after (inl (x.coding.meaning.among m n v.0 p.one p.here))
+      (all_with (AnyEither S M m n) p.before p.one p.after (inl (x.meaning.among m n v.0 p.one p.here))
       (all_so (M m n) (AnyEither S M m n) (λ z k. inr k) (p.before ++ p.after) (y.within m n v.1 (p.before ++ p.after) p.more)))
 
   part_opens : (m : BERMode) (n : ℕ) (b : List ℕ) → AnyEither S M m n b → StartsElement b
-  part_opens m n b (inl p) = x.coding.opens m n b p
+  part_opens m n b (inl p) = x.opens m n b p
   part_opens m n b (inr p) = y.opens m n b p
 
   part_prefix_free : (m : BERMode) (n k : ℕ) (b d r s : List ℕ) → AnyEither S M m n b → AnyEither S M m k d → b ++ r ≡ d ++ s → b ≡ d
-  part_prefix_free m n k b d r s (inl p) (inl q) e = x.coding.prefix_free m n k b d r s p q e
-  part_prefix_free m n k b d r s (inl p) (inr q) e = absurd (are_unambiguous (x.begins refl) y.begins none m n k b d r s p q e)
-  part_prefix_free m n k b d r s (inr p) (inl q) e = absurd (are_unambiguous (x.begins refl) y.begins none m k n d b s r q p (sym e))
+  part_prefix_free m n k b d r s (inl p) (inl q) e = x.prefix_free m n k b d r s p q e
+  part_prefix_free m n k b d r s (inl p) (inr q) e = absurd (are_unambiguous begins y.begins none m n k b d r s p q e)
+  part_prefix_free m n k b d r s (inr p) (inl q) e = absurd (are_unambiguous begins y.begins none m k n d b s r q p (sym e))
   part_prefix_free m n k b d r s (inr p) (inr q) e = y.prefix_free m n k b d r s p q e
 
   part_raw : (m : BERMode) (n : ℕ) (b : List ℕ) → AnyEither S M m n b → (v : RawValue) × IsRaw m n v b
@@ -293,9 +312,9 @@ module _ {A V : Type 0} {t : Tag} {us : List Tag} {E : A → A → Type 0} {F : 
 
   part_exact : (m : BERMode) (n k : ℕ) (v w : A × V) (ps : List (List ℕ)) → PickOf B P m n v ps → PickOf B P m k w ps → SamePart E F v w
   part_exact m n k v w ps p q =
-      let z = pick_once (BeginsWithTag t) p.before q.before p.one q.one p.after q.after (sym p.joined ∙ q.joined)
+      let z = pick_once (BeginsWithOne ts) p.before q.before p.one q.one p.after q.after (sym p.joined ∙ q.joined)
       (tagged m n v.0 p.one p.here) (others_without m k w.1 (q.before ++ q.after) q.more) in (
-        x.coding.meaning.exact m n k v.0 w.0 q.one (subst (λ b. B m n v.0 b) z.1 p.here) q.here,
+        x.meaning.exact m n k v.0 w.0 q.one (subst (λ b. B m n v.0 b) z.1 p.here) q.here,
         y.exact m n k v.1 w.1 (q.before ++ q.after) (subst (λ qs. P m n v.1 qs) (ap₂ (λ i j. i ++ j) z.0 z.2) p.more) q.more,
       )
 
@@ -305,7 +324,7 @@ module _ {A V : Type 0} {t : Tag} {us : List Tag} {E : A → A → Type 0} {F : 
     one = p.one;
     after = p.after;
     joined = p.joined;
-    here = x.coding.meaning.deeper m n k v.0 p.one l p.here;
+    here = x.meaning.deeper m n k v.0 p.one l p.here;
     more = y.deeper m n k v.1 (p.before ++ p.after) l p.more;
   }
 
@@ -317,14 +336,15 @@ module _ {A V : Type 0} {t : Tag} {us : List Tag} {E : A → A → Type 0} {F : 
   part_parted : (m : BERMode) (n : ℕ) (v : A × V) (d : List ℕ) → PartOf B C m n v d →
       (ps : List (List ℕ)) × PickOf B P m n v ps × (d ≡ concat ps) × ((ws : List Tag) × Each BeginsWithTag ws ps × Ascend ws)
   part_parted m n v d h =
-      let z = y.parted m n v.1 h.rest h.more in (
+      let z = y.parted m n v.1 h.rest h.more in
+      let t = all_after m n v.0 v.1 h.prefix z.0 h.here z.1 in (
         h.prefix ∷ z.0,
         record { before = []; one = h.prefix; after = z.0; joined = refl; here = h.here; more = z.1 },
         h.joined ∙ ap (λ r. h.prefix ++ r) z.2,
         (
-          t ∷ z.3.0,
-          (tagged m n v.0 h.prefix h.here, z.3.1),
-          ascend_first t z.3.0 z.0 (all_after m n v.1 z.0 z.1) z.3.1 z.3.2,
+          t.tag ∷ z.3.0,
+          (t.begins, z.3.1),
+          ascend_first t.tag z.3.0 z.0 t.others z.3.1 z.3.2,
         ),
       )
 
@@ -332,8 +352,9 @@ module _ {A V : Type 0} {t : Tag} {us : List Tag} {E : A → A → Type 0} {F : 
       PartOf B C m n v (concat ps)
   part_ordered m n v ps ws p e a =
       let each = subst (λ qs. Each BeginsWithTag ws qs) p.joined e in
-      let prefix = all_prefix (After t) p.before p.after (all_after m n v.1 (p.before ++ p.after) p.more) in
-      let nothing = is_first t ws p.before p.one p.after each (tagged m n v.0 p.one p.here) a prefix in
+      let t = all_after m n v.0 v.1 p.one (p.before ++ p.after) p.here p.more in
+      let prefix = all_prefix (After t.tag) p.before p.after t.others in
+      let nothing = is_first t.tag ws p.before p.one p.after each t.begins a prefix in
       let rest = tags_after ws p.one p.after (subst (λ qs. Each BeginsWithTag ws (qs ++ (p.one ∷ p.after))) nothing each) a in
       record {
         prefix = p.one;
@@ -344,10 +365,10 @@ module _ {A V : Type 0} {t : Tag} {us : List Tag} {E : A → A → Type 0} {F : 
       }
 
   -- a part that is there
-  pub set_part : AreSetParts (t ∷ us) (SamePart E F) (PartOf B C) (PickOf B P) (AnyEither S M)
-  set_part = record {
+  pub part_keeps : AreSetParts (ts ++ us) (SamePart E F) (PartOf B C) (PickOf B P) (AnyEither S M)
+  part_keeps = record {
     within = part_within;
-    begins = either_by_tags (x.begins refl) y.begins;
+    begins = either_by_tags begins y.begins;
     opens = part_opens;
     prefix_free = part_prefix_free;
     exact = part_exact;
@@ -365,8 +386,8 @@ module _ {A V : Type 0} {t : Tag} {us : List Tag} {E : A → A → Type 0} {F : 
   -- encodings with the part aren't those of the others only
   not_omitted : (m : BERMode) (n k : ℕ) (v : A) (w u : V) (ps : List (List ℕ)) → Picks (B m n v) (P m n w) ps → P m k u ps → ⊥
   not_omitted m n k v w u ps p q =
-      (all_others (λ z. BeginsWithTag t z → ⊥) p.before p.one p.after
-      (subst (AllByRecursion (λ z. BeginsWithTag t z → ⊥)) p.joined (others_without m k u ps q))).0 (tagged m n v p.one p.here)
+      (all_others (λ z. BeginsWithOne ts z → ⊥) p.before p.one p.after
+      (subst (AllByRecursion (λ z. BeginsWithOne ts z → ⊥)) p.joined (others_without m k u ps q))).0 (tagged m n v p.one p.here)
 
   maybe_exact : (m : BERMode) (n k : ℕ) (v w : Option A) (i j : V) (ps : List (List ℕ)) → PickMaybe (B m n) (P m n i) v ps →
       PickMaybe (B m k) (P m k j) w ps → SameOption E v w × F i j
@@ -400,10 +421,10 @@ module _ {A V : Type 0} {t : Tag} {us : List Tag} {E : A → A → Type 0} {F : 
   maybe_ordered m n None w ps ws p e a = record { prefix = []; rest = concat ps; joined = refl; here = refl; more = y.ordered m n w ps ws p e a }
 
   -- a part that may be omitted
-  pub set_option : AreSetParts (t ∷ us) (SamePart (SameOption E) F) (PartOf (OptionOf B) C) (OptionPick B P) (AnyEither S M)
-  set_option = record {
+  pub option_keeps : AreSetParts (ts ++ us) (SamePart (SameOption E) F) (PartOf (OptionOf B) C) (OptionPick B P) (AnyEither S M)
+  option_keeps = record {
     within = λ m n v. maybe_within m n v.0 v.1;
-    begins = either_by_tags (x.begins refl) y.begins;
+    begins = either_by_tags begins y.begins;
     opens = part_opens;
     prefix_free = part_prefix_free;
     exact = λ m n k v w. maybe_exact m n k v.0 w.0 v.1 w.1;
@@ -413,6 +434,100 @@ module _ {A V : Type 0} {t : Tag} {us : List Tag} {E : A → A → Type 0} {F : 
     ordered = λ m n v. maybe_ordered m n v.0 v.1;
     raw = part_raw;
   }
+
+-- an encoding that is there is an encoding
+abbrev pub unless_default : {A : Type 0} {E : A → A → Type 0} {B : Grammar A} {S : Members} (is : A → Bool) → IsCoding E B S → IsCoding E (UnlessDefault is B) S
+unless_default is x = record {
+  meaning = record {
+    equal = x.meaning.equal;
+    among = λ m n v b p. x.meaning.among m n v b p.0;
+    exact = λ m n k v w b p q. x.meaning.exact m n k v w b p.0 q.0;
+    deeper = λ m n k v b l p. (x.meaning.deeper m n k v b l p.0, p.1);
+  };
+  opens = x.opens;
+  prefix_free = x.prefix_free;
+}
+
+module _ {A V : Type 0} {ts us : List Tag} {E : A → A → Type 0} {F : V → V → Type 0} {B : Grammar A} {C : Grammar V} {S M : Members}
+    {P : Pieced V} (is : A → Bool) (d : A) (detects : DetectsDefault E is d) (x : IsCoding E B S) (begins : BeginsBy ts S)
+    (whole : AreSingleElements S) (y : AreSetParts us F C P M) (above : tags_precede ts us ≡ true) (none : share_none ts us ≡ true) where
+  abbrev z : IsCoding E (UnlessDefault is B) S
+  z = unless_default is x
+
+  default_within : (m : BERMode) (n : ℕ) (v : A × V) (ps : List (List ℕ)) → DefaultPick is B P m n v ps → AllByRecursion (AnyEither S M m n) ps
+  default_within m n v ps (inl p) = part_within z begins whole y above none m n v ps p
+  default_within m n v ps (inr p) = all_so (M m n) (AnyEither S M m n) (λ i k. inr k) ps (y.within m n v.1 ps p.0)
+
+  -- two values that are the default are equal
+  both_default : (v w : A) → is v ≡ true → is w ≡ true → E v w
+  both_default v w p q =
+      x.meaning.equal.transitive v d w ((detects v).0 p) (x.meaning.equal.symmetric w d ((detects w).0 q))
+
+  default_exact : (m : BERMode) (n k : ℕ) (v w : A × V) (ps : List (List ℕ)) → DefaultPick is B P m n v ps → DefaultPick is B P m k w ps → SamePart E F v w
+  default_exact m n k v w ps (inl p) (inl q) = part_exact z begins whole y above none m n k v w ps p q
+  default_exact m n k v w ps (inl p) (inr q) = absurd (not_omitted z begins whole y above none m n k v.0 v.1 w.1 ps p q.0)
+  default_exact m n k v w ps (inr p) (inl q) = absurd (not_omitted z begins whole y above none m k n w.0 w.1 v.1 ps q p.0)
+  default_exact m n k v w ps (inr p) (inr q) = (both_default v.0 w.0 p.1 q.1, y.exact m n k v.1 w.1 ps p.0 q.0)
+
+  default_deeper : (m : BERMode) (n k : ℕ) (v : A × V) (ps : List (List ℕ)) → n ≤ k → DefaultPick is B P m n v ps → DefaultPick is B P m k v ps
+  default_deeper m n k v ps l (inl p) = inl (part_deeper z begins whole y above none m n k v ps l p)
+  default_deeper m n k v ps l (inr p) = inr (y.deeper m n k v.1 ps l p.0, p.1)
+
+  default_listed : (m : BERMode) (n : ℕ) (v : A × V) (ps : List (List ℕ)) → DefaultPick is B P m n v ps → (c : List ℕ) × PartOf (DefaultOf is B) C m n v c
+  default_listed m n v ps (inl p) =
+      let k = part_listed z begins whole y above none m n v ps p in
+      (k.0, record { prefix = k.1.prefix; rest = k.1.rest; joined = k.1.joined; here = inl k.1.here; more = k.1.more })
+  default_listed m n v ps (inr p) =
+      let k = y.listed m n v.1 ps p.0 in
+      (k.0, record { prefix = []; rest = k.0; joined = refl; here = inr (refl, p.1); more = k.1 })
+
+  by_prefix : (m : BERMode) (n : ℕ) (v : A × V) (c prefix rest : List ℕ) → c ≡ prefix ++ rest → DefaultOf is B m n v.0 prefix → C m n v.1 rest →
+      (ps : List (List ℕ)) × DefaultPick is B P m n v ps × (c ≡ concat ps) × ((ws : List Tag) × Each BeginsWithTag ws ps × Ascend ws)
+  by_prefix m n v c prefix rest j (inl p) more =
+      let k = part_parted z begins whole y above none m n v c (record { prefix = prefix; rest = rest; joined = j; here = p; more = more }) in
+      (k.0, inl k.1, k.2, k.3)
+  by_prefix m n v c prefix rest j (inr p) more =
+      let k = y.parted m n v.1 rest more in
+      (k.0, inr (k.1, p.1), j ∙ ap (λ i. i ++ rest) p.0 ∙ k.2, k.3)
+
+  default_ordered : (m : BERMode) (n : ℕ) (v : A × V) (ps : List (List ℕ)) (ws : List Tag) → DefaultPick is B P m n v ps → Each BeginsWithTag ws ps →
+      Ascend ws → PartOf (DefaultOf is B) C m n v (concat ps)
+  default_ordered m n v ps ws (inl p) e a =
+      let k = part_ordered z begins whole y above none m n v ps ws p e a in
+      record { prefix = k.prefix; rest = k.rest; joined = k.joined; here = inl k.here; more = k.more }
+  default_ordered m n v ps ws (inr p) e a =
+      record { prefix = []; rest = concat ps; joined = refl; here = inr (refl, p.1); more = y.ordered m n v.1 ps ws p.0 e a }
+
+  -- a part with a default
+  pub default_keeps : AreSetParts (ts ++ us) (SamePart E F) (PartOf (DefaultOf is B) C) (DefaultPick is B P) (AnyEither S M)
+  default_keeps = record {
+    within = default_within;
+    begins = either_by_tags begins y.begins;
+    opens = part_opens x begins whole y above none;
+    prefix_free = part_prefix_free x begins whole y above none;
+    exact = default_exact;
+    deeper = default_deeper;
+    listed = default_listed;
+    parted = λ m n v c p. by_prefix m n v c p.prefix p.rest p.joined p.here p.more;
+    ordered = default_ordered;
+    raw = part_raw x begins whole y above none;
+  }
+
+module _ {A V : Type 0} {ts us : List Tag} {E : A → A → Type 0} {F : V → V → Type 0} {B : Grammar A} {C : Grammar V} {S M : Members}
+    {P : Pieced V} {f : Encoding A} {G : Fitting A} {c : A → Type 0} (x : IsNotation true ts E B S f G c) (whole : AreSingleElements S)
+    (y : AreSetParts us F C P M) (above : tags_precede ts us ≡ true) (none : share_none ts us ≡ true) where
+  -- a part that is there
+  pub set_part : AreSetParts (ts ++ us) (SamePart E F) (PartOf B C) (PickOf B P) (AnyEither S M)
+  set_part = part_keeps x.coding (x.begins refl) whole y above none
+
+  -- a part that may be omitted
+  pub set_option : AreSetParts (ts ++ us) (SamePart (SameOption E) F) (PartOf (OptionOf B) C) (OptionPick B P) (AnyEither S M)
+  set_option = option_keeps x.coding (x.begins refl) whole y above none
+
+  -- a part with a default
+  pub set_default : (is : A → Bool) (d : A) → DetectsDefault E is d →
+      AreSetParts (ts ++ us) (SamePart E F) (PartOf (DefaultOf is B) C) (DefaultPick is B P) (AnyEither S M)
+  set_default is d detects = default_keeps is d detects x.coding (x.begins refl) whole y above none
 
 -- encodings, one after the other
 pub members_each : (S : List ℕ → Type 0) (ps : List (List ℕ)) → AllByRecursion S ps → (us : List (Unit {0})) × Each (λ u. S) us ps
@@ -482,10 +597,6 @@ module _ {V : Type 0} {ts : List Tag} {E : V → V → Type 0} {C : Grammar V} {
     same = x.same;
   }
 
--- each encoding is one element
-abbrev pub AreSingleElements : Members → Type 0
-AreSingleElements S = (m : BERMode) (n : ℕ) (b : List ℕ) → S m n b → (v : RawValue) × IsRaw m n v b
-
 -- what the test of the tags of a SET says
 pub record SetKnown (above none a b : Bool) : Type 0 where
   pub after : above ≡ true
@@ -500,19 +611,30 @@ set_known above none a b e =
     let z = and_parts a b w.1 in
     record { after = u.0; none_shared = w.0; first_unambiguous = z.0; others_unambiguous = z.1 }
 
-module _ {A V : Type 0} {tags_known : Bool} {ts : List Tag} {t : Tag} {us : List Tag} {E : A → A → Type 0} {F : V → V → Type 0} {B : Grammar A}
-    {C : Grammar V} {S M : Members} {P : Pieced V} {f : Encoding A} {G : Fitting A} {c : A → Type 0} {a b : Bool} (is_known : tags_known ≡ true) (one : ts ≡ t ∷ [])
-    (first : a ≡ true → IsNotation tags_known ts E B S f G c) (whole : a ≡ true → AreSingleElements S) (rest : b ≡ true → AreSetParts us F C P M)
-    (unambiguous : tag_precedes t us && (share_none (t ∷ []) us && (a && b)) ≡ true) where
-  pub set_part_laws : AreSetParts (t ∷ us) (SamePart E F) (PartOf B C) (PickOf B P) (AnyEither S M)
-  set_part_laws =
-      let z = set_known (tag_precedes t us) (share_none (t ∷ []) us) a b unambiguous in
-      set_part (one_tagged is_known one (first z.first_unambiguous)) (whole z.first_unambiguous) (rest z.others_unambiguous) z.after z.none_shared
+-- the laws of a type whose tags are known
+pub known_by_tags : {A : Type 0} {tags_known : Bool} {ts : List Tag} {E : A → A → Type 0} {B : Grammar A} {S : Members} {f : Encoding A} {G : Fitting A}
+    {c : A → Type 0} → tags_known ≡ true → IsNotation tags_known ts E B S f G c → IsNotation true ts E B S f G c
+known_by_tags is x = record { coding = x.coding; begins = λ _. x.begins is; exact = x.exact }
 
-  pub set_option_laws : AreSetParts (t ∷ us) (SamePart (SameOption E) F) (PartOf (OptionOf B) C) (OptionPick B P) (AnyEither S M)
+module _ {A V : Type 0} {tags_known : Bool} {ts us : List Tag} {E : A → A → Type 0} {F : V → V → Type 0} {B : Grammar A}
+    {C : Grammar V} {S M : Members} {P : Pieced V} {f : Encoding A} {G : Fitting A} {c : A → Type 0} {a b : Bool} (is_known : tags_known ≡ true)
+    (first : a ≡ true → IsNotation tags_known ts E B S f G c) (whole : a ≡ true → AreSingleElements S) (rest : b ≡ true → AreSetParts us F C P M)
+    (unambiguous : tags_precede ts us && (share_none ts us && (a && b)) ≡ true) where
+  abbrev known : SetKnown (tags_precede ts us) (share_none ts us) a b
+  known = set_known (tags_precede ts us) (share_none ts us) a b unambiguous
+
+  pub set_part_laws : AreSetParts (ts ++ us) (SamePart E F) (PartOf B C) (PickOf B P) (AnyEither S M)
+  set_part_laws =
+      set_part (known_by_tags is_known (first known.first_unambiguous)) (whole known.first_unambiguous) (rest known.others_unambiguous) known.after known.none_shared
+
+  pub set_option_laws : AreSetParts (ts ++ us) (SamePart (SameOption E) F) (PartOf (OptionOf B) C) (OptionPick B P) (AnyEither S M)
   set_option_laws =
-      let z = set_known (tag_precedes t us) (share_none (t ∷ []) us) a b unambiguous in
-      set_option (one_tagged is_known one (first z.first_unambiguous)) (whole z.first_unambiguous) (rest z.others_unambiguous) z.after z.none_shared
+      set_option (known_by_tags is_known (first known.first_unambiguous)) (whole known.first_unambiguous) (rest known.others_unambiguous) known.after known.none_shared
+
+  pub set_default_laws : (is : A → Bool) (d : A) → DetectsDefault E is d →
+      AreSetParts (ts ++ us) (SamePart E F) (PartOf (DefaultOf is B) C) (DefaultPick is B P) (AnyEither S M)
+  set_default_laws =
+      set_default (known_by_tags is_known (first known.first_unambiguous)) (whole known.first_unambiguous) (rest known.others_unambiguous) known.after known.none_shared
 
 -- the laws of a SET of parts, under any tag
 pub set_lawful : {V : Type 0} {tags_known : Bool} {us ts : List Tag} {E : V → V → Type 0} {C : Grammar V} {Q : Members} {P : Pieced V} {M : Members}

@@ -15,8 +15,6 @@ ghost use Rattle.yasna_base.specs.Octets.{IsOctets, octets_segmentation, octets_
 ghost use Rattle.yasna_base.specs.Sequence.{sequence_tag};
 ghost use Rattle.yasna_base.specs.SequenceOf.{AnyElements, AnyListOf};
 
-use yasna_base::Tag;
-use yasna_base::tags::{TAG_BOOLEAN, TAG_INTEGER, TAG_OCTETSTRING, TAG_SEQUENCE};
 use yasna_notation::{
     Explicit, Implicit, Notation, Optional, Parts, Sequence, SequenceOf, TagName,
 };
@@ -27,104 +25,24 @@ pub trait Elements: Notation {
     ghost elements: { Self.unambiguous ≡ true → AreElementsAs Self.means.retagged Self.means.any_under };
 }
 
-/// A type each of whose encodings is one element with the same tag.
-pub trait OneElement: Elements {
-    // The tag of its encodings.
-    ghost tag: { Tag };
-
-    /// The tag of its encodings.
-    fn tag() -> Tag
-        ensures { result ≡ tag };
-
-    // It is known by this tag only.
-    ghost is_known: { Self.means.tags_known ≡ true };
-
-    ghost one_tag: { Self.means.tags ≡ tag ∷ [] };
-}
-
 impl Elements for bool {
     ghost elements = { λ _. elements_lawful boolean_tag (λ t. Any (Primitively IsBoolean t)) (primitive_elements IsBoolean) (not_end 1 (λ e. omega arith)) (omega arith) };
-}
-
-impl OneElement for bool {
-    ghost tag = { boolean_tag };
-
-    #[inline(always)]
-    fn tag() -> Tag {
-        TAG_BOOLEAN
-    }
-
-    ghost is_known = { refl };
-
-    ghost one_tag = { refl };
 }
 
 impl Elements for i64 {
     ghost elements = { λ _. elements_lawful integer_tag (λ t. Any (Primitively (IsSigned w64) t)) (primitive_elements (IsSigned w64)) (not_end 2 (λ e. omega arith)) (omega arith) };
 }
 
-impl OneElement for i64 {
-    ghost tag = { integer_tag };
-
-    #[inline(always)]
-    fn tag() -> Tag {
-        TAG_INTEGER
-    }
-
-    ghost is_known = { refl };
-
-    ghost one_tag = { refl };
-}
-
 impl<T: TagName, N: Elements> Elements for Implicit<T, N> {
     ghost elements = { λ a. implicit_elements T.tag (λ b. N.elements b) a T.not_end T.in_range };
-}
-
-impl<T: TagName, N: Elements> OneElement for Implicit<T, N> {
-    ghost tag = { T.tag };
-
-    #[inline(always)]
-    fn tag() -> Tag {
-        T::tag()
-    }
-
-    ghost is_known = { refl };
-
-    ghost one_tag = { refl };
 }
 
 impl<T: TagName, N: Elements> Elements for Explicit<T, N> {
     ghost elements = { λ a. elements_lawful T.tag (λ t. AnyEnclosed (N.means.any_under None) t) (explicit_elements (N.elements a).own) T.not_end T.in_range };
 }
 
-impl<T: TagName, N: Elements> OneElement for Explicit<T, N> {
-    ghost tag = { T.tag };
-
-    #[inline(always)]
-    fn tag() -> Tag {
-        T::tag()
-    }
-
-    ghost is_known = { refl };
-
-    ghost one_tag = { refl };
-}
-
 impl Elements for Vec<u8> {
     ghost elements = { λ _. elements_lawful octets_tag (λ t. Any (IsOctets t)) (segmented_elements octets_segmentation (not_end 4 (λ e. omega arith)) (omega arith)) (not_end 4 (λ e. omega arith)) (omega arith) };
-}
-
-impl OneElement for Vec<u8> {
-    ghost tag = { octets_tag };
-
-    #[inline(always)]
-    fn tag() -> Tag {
-        TAG_OCTETSTRING
-    }
-
-    ghost is_known = { refl };
-
-    ghost one_tag = { refl };
 }
 
 /// Parts of a SEQUENCE, each of whose encodings is one element.
@@ -150,22 +68,6 @@ where
     P::Values: Drop,
 {
     ghost elements = { λ a. elements_lawful sequence_tag (λ t. AnyEnclosed P.any_parts t) (enclosed_elements P.any_parts (P.joined a)) (not_end 16 (λ e. omega arith)) (omega arith) };
-}
-
-impl<P: ElementParts> OneElement for Sequence<P>
-where
-    P::Values: Drop,
-{
-    ghost tag = { sequence_tag };
-
-    #[inline(always)]
-    fn tag() -> Tag {
-        TAG_SEQUENCE
-    }
-
-    ghost is_known = { refl };
-
-    ghost one_tag = { refl };
 }
 
 impl<N: Elements> Elements for SequenceOf<N> {

@@ -6,9 +6,9 @@
 ghost use Rattle.std.specs.Prelude.{◌≡◌, refl};
 
 use crate::plain_bits::PlainBits;
-use yasna_base::ASN1Result;
+use yasna_base::{ASN1Result, BERMode, Tag};
 use yasna_notation::{DefinedType, Sequence};
-use yasna_writer::DERWriter;
+use yasna_writer::{DERWriter, PrependBuffer};
 
 type Parts = (PlainBits, (i64, ()));
 
@@ -31,6 +31,14 @@ impl DefinedType for KeyInfo {
 
     fn write_value(&self, writer: DERWriter<'_>) -> ASN1Result<()> {
         Sequence::<Parts>::write_fields((&self.usage, (&self.number, ())), writer)
+    }
+
+    fn prepend_value(&self, under: Option<Tag>, out: &mut PrependBuffer) -> ASN1Result<()> {
+        Sequence::<Parts>::prepend_fields((&self.usage, (&self.number, ())), under, out)
+    }
+
+    fn value_len(&self, under: Option<Tag>, mode: BERMode) -> Option<usize> {
+        Sequence::<Parts>::fields_len((&self.usage, (&self.number, ())), under, mode)
     }
 
     ghost unambiguous = { refl };

@@ -11,10 +11,10 @@ ghost use Rattle.yasna_notation_types.specs.LeastBits.{EncodesLeast, CanLeast, l
 
 use crate::named_bits::NamedBits;
 use yasna_base::tags::TAG_BITSTRING;
-use yasna_base::{ASN1Result, Tag};
+use yasna_base::{ASN1Result, BERMode, Tag};
 use yasna_notation::{CanonicalNotation, Notation};
 use yasna_reader::BERReader;
-use yasna_writer::DERWriter;
+use yasna_writer::{DERWriter, PrependBuffer, bitvec_len};
 
 /// BIT STRING with named bits, as its bytes and how many bits there are.
 ///
@@ -81,6 +81,26 @@ impl Notation for LeastBits {
         let count = bits_left(bytes, value.1);
         let size = count.div_ceil(8);
         writer.write_bitvec_bytes(&bytes[..size], count)
+    }
+
+    #[inline(always)]
+    fn prepend(
+        value: &(Vec<u8>, usize),
+        under: Option<Tag>,
+        out: &mut PrependBuffer,
+    ) -> ASN1Result<()> {
+        let bytes = value.0.as_slice();
+        let count = bits_left(bytes, value.1);
+        let size = count.div_ceil(8);
+        out.prepend_bitvec_bytes(under.unwrap_or(TAG_BITSTRING), &bytes[..size], count)
+    }
+
+    #[inline(always)]
+    fn encoded_len(value: &(Vec<u8>, usize), under: Option<Tag>, mode: BERMode) -> Option<usize> {
+        let bytes = value.0.as_slice();
+        let count = bits_left(bytes, value.1);
+        let size = count.div_ceil(8);
+        bitvec_len(mode, under.unwrap_or(TAG_BITSTRING), &bytes[..size])
     }
 
     ghost lawful = { λ _. least_lawful };

@@ -9,7 +9,8 @@
 //! | `rest` | the elements at the end of an extensible SEQUENCE, after mandatory parts |
 //! | `others`, `possible_default`, `beginning` | these elements after OPTIONAL and DEFAULT parts, and such parts |
 //! | `elements` | types each of whose encodings is one element |
-//! | `set_parts` | SET of parts |
+//! | `set_part`, `set_choices` | types that may be a part of a SET |
+//! | `set_parts`, `set_defaults` | SET of parts |
 //!
 //! Each of these has an example, which is a type of a small module:
 //!
@@ -19,12 +20,15 @@
 //! | `key_info` | `plain_bits` |
 //! | `usage` | `least_bits` |
 //! | `shape` | `open_choice` |
+//! | `header` | `named_bits`, `rest` |
 //! | `profile` | `others`, `possible_default` |
-//! | `person` | `set_parts` |
+//! | `person`, `entry` | `set_parts` |
 #![tactic(auto)]
 
 mod beginning;
 mod elements;
+mod entry;
+mod header;
 mod key_info;
 mod least_bits;
 mod named;
@@ -37,6 +41,9 @@ mod possible_default;
 mod profile;
 mod reply;
 mod rest;
+mod set_choices;
+mod set_defaults;
+mod set_part;
 mod set_parts;
 mod shape;
 mod statuses;
@@ -45,7 +52,9 @@ mod tests;
 mod usage;
 
 pub use beginning::Beginning;
-pub use elements::{ElementParts, Elements, OneElement};
+pub use elements::{ElementParts, Elements};
+pub use entry::Entry;
+pub use header::Header;
 pub use key_info::KeyInfo;
 pub use least_bits::LeastBits;
 pub use named::{Named, Numbered};
@@ -58,6 +67,8 @@ pub use possible_default::PossibleDefault;
 pub use profile::Profile;
 pub use reply::Reply;
 pub use rest::Rest;
+pub use set_choices::SetAlternatives;
+pub use set_part::SetPart;
 pub use set_parts::{Set, SetParts};
 pub use shape::Shape;
 pub use statuses::{ResponseStatus, ResultCode};

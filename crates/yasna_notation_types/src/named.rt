@@ -6,10 +6,10 @@ ghost use Rattle.yasna_notation_types.specs.Named.{named_means, named_lawful, na
 
 use std::marker::PhantomData;
 use yasna_base::tags::TAG_ENUM;
-use yasna_base::{ASN1Error, ASN1ErrorKind, ASN1Result, Tag};
+use yasna_base::{ASN1Error, ASN1ErrorKind, ASN1Result, BERMode, Tag};
 use yasna_notation::{CanonicalNotation, Notation};
 use yasna_reader::BERReader;
-use yasna_writer::DERWriter;
+use yasna_writer::{DERWriter, PrependBuffer, i64_len};
 
 /// An enum whose values have numbers, as those of an ENUMERATED.
 pub trait Numbered: Sized + Drop {
@@ -66,6 +66,16 @@ impl<E: Numbered> Notation for Named<E> {
     #[inline(always)]
     fn write(value: &E, writer: DERWriter<'_>) -> ASN1Result<()> {
         writer.write_enum(value.number())
+    }
+
+    #[inline(always)]
+    fn prepend(value: &E, under: Option<Tag>, out: &mut PrependBuffer) -> ASN1Result<()> {
+        out.prepend_i64(under.unwrap_or(TAG_ENUM), value.number())
+    }
+
+    #[inline(always)]
+    fn encoded_len(value: &E, under: Option<Tag>, _mode: BERMode) -> Option<usize> {
+        i64_len(under.unwrap_or(TAG_ENUM), value.number())
     }
 
     ghost lawful = { λ _. named_lawful E.number_of E.named E.writable };

@@ -11,7 +11,7 @@ use yasna_base::tags::TAG_BITSTRING;
 use yasna_base::{ASN1Error, ASN1ErrorKind, ASN1Result, BERMode, Tag};
 use yasna_notation::Notation;
 use yasna_reader::BERReader;
-use yasna_writer::DERWriter;
+use yasna_writer::{DERWriter, PrependBuffer, bitvec_len};
 
 /// BIT STRING with named bits, as its bytes and how many bits there are.
 ///
@@ -80,6 +80,20 @@ impl Notation for NamedBits {
     #[inline(always)]
     fn write(value: &(Vec<u8>, usize), writer: DERWriter<'_>) -> ASN1Result<()> {
         writer.write_bitvec_bytes(value.0.as_slice(), value.1)
+    }
+
+    #[inline(always)]
+    fn prepend(
+        value: &(Vec<u8>, usize),
+        under: Option<Tag>,
+        out: &mut PrependBuffer,
+    ) -> ASN1Result<()> {
+        out.prepend_bitvec_bytes(under.unwrap_or(TAG_BITSTRING), value.0.as_slice(), value.1)
+    }
+
+    #[inline(always)]
+    fn encoded_len(value: &(Vec<u8>, usize), under: Option<Tag>, mode: BERMode) -> Option<usize> {
+        bitvec_len(mode, under.unwrap_or(TAG_BITSTRING), value.0.as_slice())
     }
 
     ghost lawful = { λ _. named_bits_lawful };

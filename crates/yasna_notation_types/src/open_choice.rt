@@ -11,10 +11,10 @@ ghost use Rattle.yasna_notation_types.specs.OpenChoice.{EncodesOther, is_other, 
 
 use std::marker::PhantomData;
 use yasna_base::models::TaggedDerValue;
-use yasna_base::{ASN1Result, Tag};
+use yasna_base::{ASN1Result, BERMode, Tag};
 use yasna_notation::{Alternatives, Either, Notation};
 use yasna_reader::BERReader;
-use yasna_writer::DERWriter;
+use yasna_writer::{DERWriter, PrependBuffer};
 
 /// `CHOICE { A, ... }`: a value of one of the known types, or an element with any other tag.
 ///
@@ -68,6 +68,30 @@ where
         match value {
             Either::First(known) => A::write(known, writer),
             Either::Second(other) => writer.write_tagged_der(other),
+        }
+    }
+
+    #[inline(always)]
+    fn prepend(
+        value: &Either<A::Value, TaggedDerValue>,
+        under: Option<Tag>,
+        out: &mut PrependBuffer,
+    ) -> ASN1Result<()> {
+        match value {
+            Either::First(known) => A::prepend(known, under, out),
+            Either::Second(other) => <TaggedDerValue as Notation>::prepend(other, under, out),
+        }
+    }
+
+    #[inline(always)]
+    fn encoded_len(
+        value: &Either<A::Value, TaggedDerValue>,
+        under: Option<Tag>,
+        mode: BERMode,
+    ) -> Option<usize> {
+        match value {
+            Either::First(known) => A::encoded_len(known, under, mode),
+            Either::Second(other) => <TaggedDerValue as Notation>::encoded_len(other, under, mode),
         }
     }
 

@@ -17,13 +17,15 @@ ghost use Rattle.yasna_notation_types.specs.OpenChoice.{EncodesRawElement, is_ot
 ghost use Rattle.yasna_notation_types.specs.Others.{OthersOf, AnyOthers, others_fit, other_may, others_laws, others_within, possible_laws, LooksFor};
 
 use crate::beginning::Beginning;
-use crate::rest::write_items;
 use std::marker::PhantomData;
 use yasna_base::models::TaggedDerValue;
-use yasna_base::{ASN1Error, ASN1ErrorKind, ASN1Result};
-use yasna_notation::{Notation, Parts, PartsBy};
+use yasna_base::{ASN1Error, ASN1ErrorKind, ASN1Result, BERMode};
+use yasna_notation::{
+    Notation, Parts, PartsBy, items_len, optional_len, prepend_items, prepend_optional,
+    write_items, write_optional,
+};
 use yasna_reader::BERReaderSeq;
-use yasna_writer::DERWriterSeq;
+use yasna_writer::{DERWriterSeq, PrependBuffer};
 
 /// Elements as they came, up to the end of a SEQUENCE, of which the first has none of the tags of `X`.
 ///
@@ -72,6 +74,16 @@ impl<X: Notation> Parts for Others<X> {
         write_items::<TaggedDerValue>(values.as_slice(), seq)
     }
 
+    #[inline(always)]
+    fn prepend_parts(values: &Vec<TaggedDerValue>, out: &mut PrependBuffer) -> ASN1Result<()> {
+        prepend_items::<TaggedDerValue>(values.as_slice(), out)
+    }
+
+    #[inline(always)]
+    fn parts_len(values: &Vec<TaggedDerValue>, mode: BERMode) -> Option<usize> {
+        items_len::<TaggedDerValue>(values.as_slice(), mode)
+    }
+
     ghost laws = { λ a. others_laws X.means.tags any_lawful.own };
 }
 
@@ -93,6 +105,16 @@ impl<'a, X: Notation> PartsBy<&'a Vec<TaggedDerValue>> for Others<X> {
     #[inline(always)]
     fn write_each(fields: &&'a Vec<TaggedDerValue>, seq: &mut DERWriterSeq) -> ASN1Result<()> {
         write_items::<TaggedDerValue>(fields.as_slice(), seq)
+    }
+
+    #[inline(always)]
+    fn prepend_each(fields: &&'a Vec<TaggedDerValue>, out: &mut PrependBuffer) -> ASN1Result<()> {
+        prepend_items::<TaggedDerValue>(fields.as_slice(), out)
+    }
+
+    #[inline(always)]
+    fn each_len(fields: &&'a Vec<TaggedDerValue>, mode: BERMode) -> Option<usize> {
+        items_len::<TaggedDerValue>(fields.as_slice(), mode)
     }
 }
 
@@ -159,8 +181,24 @@ impl<A: Notation, W: Beginning> Parts for Possible<A, W> {
         values: &(Option<A::Value>, W::Values),
         seq: &mut DERWriterSeq,
     ) -> ASN1Result<()> {
-        write_possible::<A>(&values.0, seq)?;
+        write_optional::<A>(&values.0, seq)?;
         W::write_parts(&values.1, seq)
+    }
+
+    #[inline(always)]
+    fn prepend_parts(
+        values: &(Option<A::Value>, W::Values),
+        out: &mut PrependBuffer,
+    ) -> ASN1Result<()> {
+        W::prepend_parts(&values.1, out)?;
+        prepend_optional::<A>(&values.0, out)
+    }
+
+    #[inline(always)]
+    fn parts_len(values: &(Option<A::Value>, W::Values), mode: BERMode) -> Option<usize> {
+        let first = optional_len::<A>(&values.0, mode)?;
+        let others = W::parts_len(&values.1, mode)?;
+        first.checked_add(others)
     }
 
     ghost laws = { λ a. possible_laws W.may (λ b. (A.lawful b).own) W.laws W.within a };
@@ -183,19 +221,20 @@ impl<'a, A: Notation, R, W: PartsBy<R>> PartsBy<(&'a Option<A::Value>, R)> for P
 
     #[inline(always)]
     fn write_each(fields: &(&'a Option<A::Value>, R), seq: &mut DERWriterSeq) -> ASN1Result<()> {
-        write_possible::<A>(fields.0, seq)?;
+        write_optional::<A>(fields.0, seq)?;
         W::write_each(&fields.1, seq)
     }
-}
 
-// Writes a part that may be omitted.
-#[inline(always)]
-fn write_possible<A: Notation>(value: &Option<A::Value>, seq: &mut DERWriterSeq) -> ASN1Result<()>
-    requires { option_can A.means.can value.now }
-    ensures { WroteParts (option_encoding (A.means.encoding_under None) seq.old.mode value.now) seq.old seq.new result }
-{
-    match value {
-        Some(part) => A::write(part, seq.next()),
-        None => Ok(()),
+    #[inline(always)]
+    fn prepend_each(fields: &(&'a Option<A::Value>, R), out: &mut PrependBuffer) -> ASN1Result<()> {
+        W::prepend_each(&fields.1, out)?;
+        prepend_optional::<A>(fields.0, out)
+    }
+
+    #[inline(always)]
+    fn each_len(fields: &(&'a Option<A::Value>, R), mode: BERMode) -> Option<usize> {
+        let first = optional_len::<A>(fields.0, mode)?;
+        let others = W::each_len(&fields.1, mode)?;
+        first.checked_add(others)
     }
 }

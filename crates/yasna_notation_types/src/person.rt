@@ -24,12 +24,12 @@ ghost use Rattle.yasna_notation.specs.contracts.simple.BoolNotation.TheImpl.Laws
 
 use crate::set_parts::Set;
 use yasna_base::tags::TAG_SET;
-use yasna_base::{ASN1Result, Tag};
+use yasna_base::{ASN1Result, BERMode, Tag};
 use yasna_notation::{
     CanonicalNotation, Context, Implicit, Message, Notation, Optional, Represents, read_as,
 };
 use yasna_reader::BERReader;
-use yasna_writer::DERWriter;
+use yasna_writer::{DERWriter, PrependBuffer};
 
 type Parts = (
     bool,
@@ -78,6 +78,22 @@ impl Notation for Person {
 
     fn write(value: &Person, writer: DERWriter<'_>) -> ASN1Result<()> {
         Set::<Parts>::write_fields((&value.member, (&value.married, (&value.age, ()))), writer)
+    }
+
+    fn prepend(value: &Person, under: Option<Tag>, out: &mut PrependBuffer) -> ASN1Result<()> {
+        Set::<Parts>::prepend_fields(
+            (&value.member, (&value.married, (&value.age, ()))),
+            under,
+            out,
+        )
+    }
+
+    fn encoded_len(value: &Person, under: Option<Tag>, mode: BERMode) -> Option<usize> {
+        Set::<Parts>::fields_len(
+            (&value.member, (&value.married, (&value.age, ()))),
+            under,
+            mode,
+        )
     }
 
     ghost lawful = { λ _. represented_lawful ⟦<Person as Represents<Fields>>⟧.value_of (set_lawful

@@ -12,10 +12,10 @@ ghost use Rattle.yasna_notation_types.specs.PlainBits.{EncodesUsed, same_used, p
 ghost use Rattle.yasna_base.specs.Bits.{cleared};
 
 use yasna_base::tags::TAG_BITSTRING;
-use yasna_base::{ASN1Result, Tag};
+use yasna_base::{ASN1Result, BERMode, Tag};
 use yasna_notation::{CanonicalNotation, Notation};
 use yasna_reader::BERReader;
-use yasna_writer::DERWriter;
+use yasna_writer::{DERWriter, PrependBuffer, bitvec_len};
 
 /// BIT STRING, as its bytes and how many bits there are.
 ///
@@ -55,6 +55,20 @@ impl Notation for PlainBits {
     #[inline(always)]
     fn write(value: &(Vec<u8>, usize), writer: DERWriter<'_>) -> ASN1Result<()> {
         writer.write_bitvec_bytes(value.0.as_slice(), value.1)
+    }
+
+    #[inline(always)]
+    fn prepend(
+        value: &(Vec<u8>, usize),
+        under: Option<Tag>,
+        out: &mut PrependBuffer,
+    ) -> ASN1Result<()> {
+        out.prepend_bitvec_bytes(under.unwrap_or(TAG_BITSTRING), value.0.as_slice(), value.1)
+    }
+
+    #[inline(always)]
+    fn encoded_len(value: &(Vec<u8>, usize), under: Option<Tag>, mode: BERMode) -> Option<usize> {
+        bitvec_len(mode, under.unwrap_or(TAG_BITSTRING), value.0.as_slice())
     }
 
     ghost lawful = { λ _. plain_lawful };

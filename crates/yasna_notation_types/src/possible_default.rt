@@ -10,10 +10,13 @@ ghost use Rattle.yasna_notation_types.specs.Others.{possible_default_laws, possi
 
 use crate::beginning::Beginning;
 use std::marker::PhantomData;
-use yasna_base::ASN1Result;
-use yasna_notation::{DefaultValue, Notation, Parts, PartsBy};
+use yasna_base::{ASN1Result, BERMode};
+use yasna_notation::{
+    DefaultValue, Notation, Parts, PartsBy, prepend_unless_default, unless_default_len,
+    write_unless_default,
+};
 use yasna_reader::BERReaderSeq;
-use yasna_writer::DERWriterSeq;
+use yasna_writer::{DERWriterSeq, PrependBuffer};
 
 /// `N DEFAULT D` and the parts `W` after it, which may begin with any other tag.
 pub struct PossibleDefault<N, D, W> {
@@ -71,6 +74,19 @@ where
         W::write_parts(&values.1, seq)
     }
 
+    #[inline(always)]
+    fn prepend_parts(values: &(A::Value, W::Values), out: &mut PrependBuffer) -> ASN1Result<()> {
+        W::prepend_parts(&values.1, out)?;
+        prepend_unless_default::<A, D>(&values.0, out)
+    }
+
+    #[inline(always)]
+    fn parts_len(values: &(A::Value, W::Values), mode: BERMode) -> Option<usize> {
+        let first = unless_default_len::<A, D>(&values.0, mode)?;
+        let others = W::parts_len(&values.1, mode)?;
+        first.checked_add(others)
+    }
+
     ghost laws = { λ a. possible_default_laws W.may D.is D.default D.detects (λ b. (A.lawful b).own) W.laws W.within a };
 }
 
@@ -92,23 +108,19 @@ where
         write_unless_default::<A, D>(fields.0, seq)?;
         W::write_each(&fields.1, seq)
     }
-}
 
-// Writes a part, unless it is the default.
-#[inline(always)]
-fn write_unless_default<A: Notation, D: DefaultValue<A>>(
-    value: &A::Value,
-    seq: &mut DERWriterSeq,
-) -> ASN1Result<()>
-where
-    A::Value: Eq,
-    requires { default_can D.is A.means.can value.now }
-    ensures { WroteParts (default_encoding D.is (A.means.encoding_under None) seq.old.mode value.now) seq.old seq.new result }
-{
-    if *value == D::default() {
-        return Ok(());
+    #[inline(always)]
+    fn prepend_each(fields: &(&'a A::Value, R), out: &mut PrependBuffer) -> ASN1Result<()> {
+        W::prepend_each(&fields.1, out)?;
+        prepend_unless_default::<A, D>(fields.0, out)
     }
-    A::write(value, seq.next())
+
+    #[inline(always)]
+    fn each_len(fields: &(&'a A::Value, R), mode: BERMode) -> Option<usize> {
+        let first = unless_default_len::<A, D>(fields.0, mode)?;
+        let others = W::each_len(&fields.1, mode)?;
+        first.checked_add(others)
+    }
 }
 
 impl<A: Notation, D: DefaultValue<A>, W: Beginning> Beginning for PossibleDefault<A, D, W>

@@ -20,12 +20,12 @@ use crate::others::{Others, Possible};
 use crate::possible_default::PossibleDefault;
 use yasna_base::models::TaggedDerValue;
 use yasna_base::tags::TAG_SEQUENCE;
-use yasna_base::{ASN1Result, Tag};
+use yasna_base::{ASN1Result, BERMode, Tag};
 use yasna_notation::{
     Choice, Context, False, Implicit, Message, Notation, Represents, Sequence, read_as,
 };
 use yasna_reader::BERReader;
-use yasna_writer::DERWriter;
+use yasna_writer::{DERWriter, PrependBuffer};
 
 type Admin = Implicit<Context<0>, bool>;
 
@@ -77,6 +77,22 @@ impl Notation for Profile {
         Sequence::<Parts>::write_fields(
             (&value.id, (&value.hidden, (&value.admin, &value.unknown))),
             writer,
+        )
+    }
+
+    fn prepend(value: &Profile, under: Option<Tag>, out: &mut PrependBuffer) -> ASN1Result<()> {
+        Sequence::<Parts>::prepend_fields(
+            (&value.id, (&value.hidden, (&value.admin, &value.unknown))),
+            under,
+            out,
+        )
+    }
+
+    fn encoded_len(value: &Profile, under: Option<Tag>, mode: BERMode) -> Option<usize> {
+        Sequence::<Parts>::fields_len(
+            (&value.id, (&value.hidden, (&value.admin, &value.unknown))),
+            under,
+            mode,
         )
     }
 

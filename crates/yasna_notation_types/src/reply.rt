@@ -9,9 +9,9 @@ ghost use Rattle.std.specs.Prelude.{◌≡◌, refl};
 
 use crate::named::Named;
 use crate::statuses::{ResponseStatus, ResultCode};
-use yasna_base::ASN1Result;
+use yasna_base::{ASN1Result, BERMode, Tag};
 use yasna_notation::{Context, DefinedType, Implicit, Sequence};
-use yasna_writer::DERWriter;
+use yasna_writer::{DERWriter, PrependBuffer};
 
 type Parts = (
     Named<ResponseStatus>,
@@ -36,6 +36,14 @@ impl DefinedType for Reply {
 
     fn write_value(&self, writer: DERWriter<'_>) -> ASN1Result<()> {
         Sequence::<Parts>::write_fields((&self.status, (&self.code, ())), writer)
+    }
+
+    fn prepend_value(&self, under: Option<Tag>, out: &mut PrependBuffer) -> ASN1Result<()> {
+        Sequence::<Parts>::prepend_fields((&self.status, (&self.code, ())), under, out)
+    }
+
+    fn value_len(&self, under: Option<Tag>, mode: BERMode) -> Option<usize> {
+        Sequence::<Parts>::fields_len((&self.status, (&self.code, ())), under, mode)
     }
 
     ghost unambiguous = { refl };

@@ -4,14 +4,18 @@ ghost use Rattle.std.specs.List.{AllByRecursion};
 ghost use Rattle.yasna_base.specs.Exact.{elements_fit};
 ghost use Rattle.yasna_base.specs.Pieces.{Each};
 ghost use Rattle.yasna_base.specs.SequenceOf.{ElementsOf, AnyElements, elements_encoding, elements_depth};
+ghost use Rattle.yasna_writer.specs.Prepend.{Prepends, KnownLength};
 ghost use Rattle.yasna_writer.specs.View.{WroteParts};
 ghost use Rattle.yasna_notation_types.specs.Rest.{rest_laws, rest_written};
 
 use std::marker::PhantomData;
-use yasna_base::ASN1Result;
-use yasna_notation::{CanonicalNotation, CanonicalParts, Notation, Parts, PartsBy};
+use yasna_base::{ASN1Result, BERMode};
+use yasna_notation::{
+    CanonicalNotation, CanonicalParts, Notation, Parts, PartsBy, items_len, prepend_items,
+    write_items,
+};
 use yasna_reader::BERReaderSeq;
-use yasna_writer::DERWriterSeq;
+use yasna_writer::{DERWriterSeq, PrependBuffer};
 
 /// Any number of values of `N`, up to the end of a SEQUENCE: `(i64, Rest<TaggedDerValue>)` of `SEQUENCE { INTEGER, ... }`.
 ///
@@ -57,6 +61,16 @@ impl<N: Notation> Parts for Rest<N> {
         write_items::<N>(values.as_slice(), seq)
     }
 
+    #[inline(always)]
+    fn prepend_parts(values: &Vec<N::Value>, out: &mut PrependBuffer) -> ASN1Result<()> {
+        prepend_items::<N>(values.as_slice(), out)
+    }
+
+    #[inline(always)]
+    fn parts_len(values: &Vec<N::Value>, mode: BERMode) -> Option<usize> {
+        items_len::<N>(values.as_slice(), mode)
+    }
+
     ghost laws = { λ a. rest_laws (N.lawful a).own };
 }
 
@@ -73,19 +87,18 @@ impl<'a, N: Notation> PartsBy<&'a Vec<N::Value>> for Rest<N> {
     fn write_each(fields: &&'a Vec<N::Value>, seq: &mut DERWriterSeq) -> ASN1Result<()> {
         write_items::<N>(fields.as_slice(), seq)
     }
+
+    #[inline(always)]
+    fn prepend_each(fields: &&'a Vec<N::Value>, out: &mut PrependBuffer) -> ASN1Result<()> {
+        prepend_items::<N>(fields.as_slice(), out)
+    }
+
+    #[inline(always)]
+    fn each_len(fields: &&'a Vec<N::Value>, mode: BERMode) -> Option<usize> {
+        items_len::<N>(fields.as_slice(), mode)
+    }
 }
 
 impl<N: CanonicalNotation> CanonicalParts for Rest<N> {
     ghost written = { λ a. rest_written (N.written a).own };
-}
-
-// Writes items, one after the other.
-pub(crate) fn write_items<N: Notation>(items: &[N::Value], seq: &mut DERWriterSeq) -> ASN1Result<()>
-    requires { AllByRecursion N.means.can items.now }
-    ensures { WroteParts (elements_encoding (N.means.encoding_under None) seq.old.mode items.now) seq.old seq.new result }
-{
-    for item in items {
-        N::write(item, seq.next())?;
-    }
-    Ok(())
 }

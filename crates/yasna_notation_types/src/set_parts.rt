@@ -1,5 +1,5 @@
 //! SET of parts: in any order in BER, in the order of their tags in DER and CER (X.690, 8.11, 9.3 and 10.3).
-ghost use Rattle.std.specs.Prelude.{◌≡◌, ◌∷◌, ◌&&◌, [], Bool, List, None, true};
+ghost use Rattle.std.specs.Prelude.{◌≡◌, ◌∷◌, ◌++◌, ◌&&◌, [], Bool, List, None, true};
 ghost use Rattle.yasna_base.specs.declared.tag.Tag.{Tag};
 ghost use Rattle.yasna_base.specs.Beginnings.{share_none};
 ghost use Rattle.yasna_base.specs.Canonical.{enclosed_encoding, enclosed_depth};
@@ -10,21 +10,22 @@ ghost use Rattle.yasna_base.specs.Exact.{enclosed_fits};
 ghost use Rattle.yasna_base.specs.Grammar.{Members};
 ghost use Rattle.yasna_base.specs.Identifier.{tag_or};
 ghost use Rattle.yasna_base.specs.Set.{set_tag};
+ghost use Rattle.yasna_writer.specs.Prepend.{Prepends, KnownLength};
 ghost use Rattle.yasna_writer.specs.View.{Writes};
 ghost use Rattle.yasna_notation.specs.Laws.{element_non_empty};
 ghost use Rattle.yasna_notation.specs.Parts.{WrittenAlike};
-ghost use Rattle.yasna_notation_types.specs.SetParts.{Pieced, PickOf, OptionPick, NoPick, NoMembers, SetOfParts, AreSetParts, tag_precedes, no_set_parts, set_part_laws, set_option_laws, set_lawful_of, set_writes_of};
+ghost use Rattle.yasna_notation_types.specs.SetParts.{Pieced, PickOf, OptionPick, NoPick, NoMembers, SetOfParts, AreSetParts, tags_precede, no_set_parts, set_part_laws, set_option_laws, set_lawful_of, set_writes_of};
 ghost use Rattle.yasna_notation_types.specs.SetReading.{ReadsSetParts};
 
-use crate::elements::OneElement;
+use crate::set_part::SetPart;
 use std::marker::PhantomData;
 use yasna_base::tags::TAG_SET;
-use yasna_base::{ASN1Error, ASN1ErrorKind, ASN1Result, Tag};
+use yasna_base::{ASN1Error, ASN1ErrorKind, ASN1Result, BERMode, Tag};
 use yasna_notation::{
     CanonicalNotation, CanonicalParts, Notation, Optional, Parts, PartsBy, Sequence,
 };
 use yasna_reader::{BERReader, BERReaderSet};
-use yasna_writer::DERWriter;
+use yasna_writer::{DERWriter, PrependBuffer};
 
 /// The parts of a SET, as pairs that end in `()`, in the order of their tags.
 pub trait SetParts: Parts {
@@ -66,18 +67,18 @@ impl SetParts for () {
     ghost set_laws = { λ a. no_set_parts };
 }
 
-impl<A: OneElement, W: SetParts> SetParts for (A, W) {
-    ghost set_tags = { A.tag ∷ W.set_tags };
+impl<A: SetPart, W: SetParts> SetParts for (A, W) {
+    ghost set_tags = { A.means.tags ++ W.set_tags };
 
     ghost members = { AnyEither (A.means.any_under None) W.members };
 
     ghost picks = { PickOf (A.means.under None) W.picks };
 
-    ghost set_unambiguous = { (tag_precedes A.tag W.set_tags && (share_none (A.tag ∷ []) W.set_tags && (A.unambiguous && W.set_unambiguous))) };
+    ghost set_unambiguous = { (tags_precede A.means.tags W.set_tags && (share_none A.means.tags W.set_tags && (A.unambiguous && W.set_unambiguous))) };
 
     #[inline(always)]
     fn read_set_parts(set: &mut BERReaderSet) -> ASN1Result<(A::Value, W::Values)> {
-        let found = match set.read_optional(&[A::tag()], |part| A::read(part)) {
+        let found = match A::read_chosen(set) {
             Ok(found) => found,
             Err(error) => return Err(error),
         };
@@ -92,21 +93,21 @@ impl<A: OneElement, W: SetParts> SetParts for (A, W) {
         Ok((first, others))
     }
 
-    ghost set_laws = { λ a. set_part_laws A.is_known A.one_tag (λ b. (A.lawful b).own) (λ b. (A.elements b).own) W.set_laws a };
+    ghost set_laws = { λ a. set_part_laws A.is_known (λ b. (A.lawful b).own) (λ b. (A.elements b).own) W.set_laws a };
 }
 
-impl<A: OneElement, W: SetParts> SetParts for (Optional<A>, W) {
-    ghost set_tags = { A.tag ∷ W.set_tags };
+impl<A: SetPart, W: SetParts> SetParts for (Optional<A>, W) {
+    ghost set_tags = { A.means.tags ++ W.set_tags };
 
     ghost members = { AnyEither (A.means.any_under None) W.members };
 
     ghost picks = { OptionPick (A.means.under None) W.picks };
 
-    ghost set_unambiguous = { (tag_precedes A.tag W.set_tags && (share_none (A.tag ∷ []) W.set_tags && (A.unambiguous && W.set_unambiguous))) };
+    ghost set_unambiguous = { (tags_precede A.means.tags W.set_tags && (share_none A.means.tags W.set_tags && (A.unambiguous && W.set_unambiguous))) };
 
     #[inline(always)]
     fn read_set_parts(set: &mut BERReaderSet) -> ASN1Result<(Option<A::Value>, W::Values)> {
-        let first = match set.read_optional(&[A::tag()], |part| A::read(part)) {
+        let first = match A::read_chosen(set) {
             Ok(first) => first,
             Err(error) => return Err(error),
         };
@@ -117,7 +118,7 @@ impl<A: OneElement, W: SetParts> SetParts for (Optional<A>, W) {
         Ok((first, others))
     }
 
-    ghost set_laws = { λ a. set_option_laws A.is_known A.one_tag (λ b. (A.lawful b).own) (λ b. (A.elements b).own) W.set_laws a };
+    ghost set_laws = { λ a. set_option_laws A.is_known (λ b. (A.lawful b).own) (λ b. (A.elements b).own) W.set_laws a };
 }
 
 /// `SET { P }`, as `Set<(bool, (Optional<i64>, ()))>`.
@@ -170,6 +171,16 @@ where
         )
     }
 
+    #[inline(always)]
+    fn prepend(value: &P::Values, under: Option<Tag>, out: &mut PrependBuffer) -> ASN1Result<()> {
+        <Sequence<P> as Notation>::prepend(value, Some(under.unwrap_or(TAG_SET)), out)
+    }
+
+    #[inline(always)]
+    fn encoded_len(value: &P::Values, under: Option<Tag>, mode: BERMode) -> Option<usize> {
+        <Sequence<P> as Notation>::encoded_len(value, Some(under.unwrap_or(TAG_SET)), mode)
+    }
+
     ghost lawful = { λ a. set_lawful_of P.unambiguous P.set_unambiguous P.laws P.set_laws a };
 
     ghost non_empty = { λ u m v. element_non_empty _ _ _ _ };
@@ -193,5 +204,33 @@ impl<P: Parts> Set<P> {
         ensures { Writes (enclosed_encoding P.encoding (tag_or writer.old.tag set_tag) writer.old.mode (P.held fields)) writer.old writer.new result }
     {
         writer.write_tagged_implicit(TAG_SET, |inner| Sequence::<P>::write_fields(fields, inner))
+    }
+
+    /// Prepends a SET of these fields to a buffer.
+    #[inline(always)]
+    pub fn prepend_fields<R: Drop>(
+        fields: R,
+        under: Option<Tag>,
+        out: &mut PrependBuffer,
+    ) -> ASN1Result<()>
+    where
+        P: PartsBy<R, Held = P::Values>,
+        requires can { P.can (P.held fields) }
+        requires alike { WrittenAlike P.encoding P.can P.encoding_by P.can_by }
+        ensures { Prepends (enclosed_encoding P.encoding (tag_or under set_tag) out.old.mode (P.held fields)) out.old out.new result }
+    {
+        Sequence::<P>::prepend_fields(fields, Some(under.unwrap_or(TAG_SET)), out)
+    }
+
+    /// The length of that SET, if it is known.
+    #[inline(always)]
+    pub fn fields_len<R: Drop>(fields: R, under: Option<Tag>, mode: BERMode) -> Option<usize>
+    where
+        P: PartsBy<R, Held = P::Values>,
+        requires can { P.can (P.held fields) }
+        requires alike { WrittenAlike P.encoding P.can P.encoding_by P.can_by }
+        ensures { KnownLength (enclosed_encoding P.encoding (tag_or under set_tag) mode (P.held fields)) result }
+    {
+        Sequence::<P>::fields_len(fields, Some(under.unwrap_or(TAG_SET)), mode)
     }
 }

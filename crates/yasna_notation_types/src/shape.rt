@@ -8,11 +8,11 @@ ghost use Rattle.yasna_notation.specs.declared.choices.Either.TheVariants.{First
 ghost use Rattle.yasna_notation_types.specs.declared.shape.Shape.TheVariants.{Number, Flag, Unknown};
 
 use crate::open_choice::OpenChoice;
-use yasna_base::ASN1Result;
 use yasna_base::models::TaggedDerValue;
+use yasna_base::{ASN1Result, BERMode, Tag};
 use yasna_notation::Either::{First, Second};
 use yasna_notation::{DefinedType, Either, Notation};
-use yasna_writer::DERWriter;
+use yasna_writer::{DERWriter, PrependBuffer};
 
 /// A shape.
 #[derive(Drop)]
@@ -45,6 +45,22 @@ impl DefinedType for Shape {
             Shape::Number(value) => <i64 as Notation>::write(value, writer),
             Shape::Flag(value) => <bool as Notation>::write(value, writer),
             Shape::Unknown(value) => <TaggedDerValue as Notation>::write(value, writer),
+        }
+    }
+
+    fn prepend_value(&self, under: Option<Tag>, out: &mut PrependBuffer) -> ASN1Result<()> {
+        match self {
+            Shape::Number(value) => <i64 as Notation>::prepend(value, under, out),
+            Shape::Flag(value) => <bool as Notation>::prepend(value, under, out),
+            Shape::Unknown(value) => <TaggedDerValue as Notation>::prepend(value, under, out),
+        }
+    }
+
+    fn value_len(&self, under: Option<Tag>, mode: BERMode) -> Option<usize> {
+        match self {
+            Shape::Number(value) => <i64 as Notation>::encoded_len(value, under, mode),
+            Shape::Flag(value) => <bool as Notation>::encoded_len(value, under, mode),
+            Shape::Unknown(value) => <TaggedDerValue as Notation>::encoded_len(value, under, mode),
         }
     }
 

@@ -1,7 +1,7 @@
 //! What the examples read and write. Some rows have the octets of `openssl asn1parse -genconf`, or of `pyasn1` where a SET is in another order, and one
 //! those of X.690, 8.6.4.2. The others are written by hand.
 
-use crate::{KeyInfo, Person, Profile, Reply, Shape, Usage};
+use crate::{Entry, Header, KeyInfo, Person, Profile, Reply, Shape, Usage};
 use std::alloc::Global;
 use std::process::Abort;
 use yasna::{
@@ -13,6 +13,8 @@ use yasna_notation::Encoded;
 /// The type of a row.
 #[derive(Clone, Copy)]
 enum Kind {
+    Entry,
+    Header,
     KeyInfo,
     Person,
     Profile,
@@ -35,7 +37,7 @@ enum Claim {
 /// A type, what is claimed, the row's name, and its octets.
 type Row = (Kind, Claim, &'static str, &'static [u8]);
 
-static ROWS: [Row; 37] = [
+static ROWS: [Row; 45] = [
     (
         Kind::Reply,
         Claim::IsEncoding,
@@ -168,6 +170,56 @@ static ROWS: [Row; 37] = [
         Claim::IsRejected,
         "an unknown element, cut off",
         &[12, 2, 0x61],
+    ),
+    (
+        Kind::Entry,
+        Claim::IsEncoding,
+        "another than the default",
+        &[0x31, 6, 1, 1, 0xff, 2, 1, 0xff],
+    ),
+    (
+        Kind::Entry,
+        Claim::IsEncoding,
+        "the default",
+        &[0x31, 4, 2, 2, 1, 44],
+    ),
+    (
+        Kind::Entry,
+        Claim::Becomes(&[0x31, 6, 1, 1, 0xff, 2, 1, 0xff]),
+        "the module's order",
+        &[0x31, 6, 2, 1, 0xff, 1, 1, 1],
+    ),
+    (
+        Kind::Entry,
+        Claim::Becomes(&[0x31, 4, 2, 2, 1, 44]),
+        "the default, encoded",
+        &[0x31, 7, 1, 1, 0, 2, 2, 1, 44],
+    ),
+    (
+        Kind::Entry,
+        Claim::IsRejected,
+        "no number",
+        &[0x31, 3, 1, 1, 0xff],
+    ),
+    (
+        Kind::Header,
+        Claim::IsEncoding,
+        "two bits, and two unknown elements",
+        &[
+            0x30, 14, 2, 1, 3, 3, 3, 6, 0x80, 0x40, 0x85, 2, 0x61, 0x62, 5, 0,
+        ],
+    ),
+    (
+        Kind::Header,
+        Claim::IsEncoding,
+        "no bit, and nothing unknown",
+        &[0x30, 6, 2, 1, 3, 3, 1, 0],
+    ),
+    (
+        Kind::Header,
+        Claim::IsRejected,
+        "an unknown element, cut off",
+        &[0x30, 9, 2, 1, 3, 3, 1, 0, 0x85, 2, 0x61],
     ),
     (
         Kind::Person,
@@ -315,6 +367,8 @@ fn holds_or_becomes<T: BERDecodable + DEREncodable + DERExact + DERCanonical>(
 
 fn is_so(alloc: Global, kind: Kind, bytes: &[u8], claim: Claim) -> bool {
     match kind {
+        Kind::Entry => holds_or_becomes::<Encoded<Entry>>(alloc, bytes, claim),
+        Kind::Header => holds::<Encoded<Header>>(alloc, bytes, claim),
         Kind::KeyInfo => holds_or_becomes::<Encoded<KeyInfo>>(alloc, bytes, claim),
         Kind::Person => holds_or_becomes::<Encoded<Person>>(alloc, bytes, claim),
         Kind::Profile => holds::<Encoded<Profile>>(alloc, bytes, claim),

@@ -6,9 +6,9 @@
 ghost use Rattle.std.specs.Prelude.{◌≡◌, refl};
 
 use crate::least_bits::LeastBits;
-use yasna_base::ASN1Result;
+use yasna_base::{ASN1Result, BERMode, Tag};
 use yasna_notation::{Context, DefinedType, Implicit, Sequence};
-use yasna_writer::DERWriter;
+use yasna_writer::{DERWriter, PrependBuffer};
 
 type Parts = (i64, (Implicit<Context<1>, LeastBits>, ()));
 
@@ -31,6 +31,14 @@ impl DefinedType for Usage {
 
     fn write_value(&self, writer: DERWriter<'_>) -> ASN1Result<()> {
         Sequence::<Parts>::write_fields((&self.number, (&self.usage, ())), writer)
+    }
+
+    fn prepend_value(&self, under: Option<Tag>, out: &mut PrependBuffer) -> ASN1Result<()> {
+        Sequence::<Parts>::prepend_fields((&self.number, (&self.usage, ())), under, out)
+    }
+
+    fn value_len(&self, under: Option<Tag>, mode: BERMode) -> Option<usize> {
+        Sequence::<Parts>::fields_len((&self.number, (&self.usage, ())), under, mode)
     }
 
     ghost unambiguous = { refl };

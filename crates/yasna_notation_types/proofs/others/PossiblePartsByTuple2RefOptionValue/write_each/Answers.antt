@@ -7,12 +7,12 @@ use Rattle.yasna_notation_types.proofs.others.PossiblePartsByTuple2RefOptionValu
 pub returns : goal.returns
 returns g c =
     others_by (option_encoding (g.A.Notation.means.encoding_under None) c.args.seq.now.mode c.args.fields.now.0.now)
-    (λ m. g.W.PartsBy.encoding_by m (g.W.PartsBy.held c.args.fields.now.1)) c.args.seq.now c.write_possible.new.seq c.write_each.new.seq
-    c.write_possible.result c.write_each.result c.in_ok-write_possible.field-0 c.write_possible.ensures c.in_ok-write_possible.was c.write_each.ensures
+    (λ m. g.W.PartsBy.encoding_by m (g.W.PartsBy.held c.args.fields.now.1)) c.args.seq.now c.write_optional.new.seq c.write_each.new.seq
+    c.write_optional.result c.write_each.result c.in_ok-write_optional.field-0 c.write_optional.ensures c.in_ok-write_optional.was c.write_each.ensures
 
-pub returns-in_err-write_possible : goal.returns-in_err-write_possible
-returns-in_err-write_possible g c =
-    let e = c.in_err-write_possible.field-0.0 in
+pub returns-in_err-write_optional : goal.returns-in_err-write_optional
+returns-in_err-write_optional g c =
+    let e = c.in_err-write_optional.field-0.0 in
     failed_by (option_encoding (g.A.Notation.means.encoding_under None) c.args.seq.now.mode c.args.fields.now.0.now) _ c.args.seq.now
-    c.write_possible.new.seq c.write_possible.result c.from_residual.result e c.write_possible.ensures c.in_err-write_possible.was
+    c.write_optional.new.seq c.write_optional.result c.from_residual.result e c.write_optional.ensures c.in_err-write_optional.was
     (let x : IsErrAnd c.from_residual.result (λ k. k ≡ e) = search rules in x)
