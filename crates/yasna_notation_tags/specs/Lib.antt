@@ -1,0 +1,4 @@
+pub mod Bmp
+pub mod Making
+pub mod Tags
+pub mod WithinMode

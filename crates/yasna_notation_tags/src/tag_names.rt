@@ -1,0 +1,177 @@
+//! The tags of the classes UNIVERSAL and PRIVATE that a module writes (X.680, 31), as types.
+ghost use Rattle.std.specs.Prelude.{◌≡◌, ◌<◌, ◌^◌};
+ghost use Rattle.std.proofs.Common.{arith, rules};
+ghost use Rattle.yasna_base.specs.declared.tag.Tag.{Tag};
+ghost use Rattle.yasna_base.specs.Identifier.{universal, end_tag};
+ghost use Rattle.yasna_base.proofs.Identifier.{not_end};
+ghost use Rattle.yasna_notation_tags.specs.Tags.{private, private_not_end};
+
+use yasna_base::Tag;
+use yasna_base::tags::{
+    TAG_BMPSTRING, TAG_EMBEDDED_PDV, TAG_EXT, TAG_GENERALSTRING, TAG_GRAPHICSTRING,
+    TAG_OBJECT_DESCRIPTOR, TAG_REAL, TAG_RELATIVE_OID, TAG_TELETEXSTRING, TAG_UNIVERSALSTRING,
+    TAG_VIDEOTEXSTRING,
+};
+use yasna_notation::TagName;
+
+/// The tag that a module writes as `[PRIVATE N]`.
+pub struct Private<const N: u64>;
+
+impl<const N: u64> TagName for Private<N> {
+    ghost tag = { private N };
+
+    #[inline(always)]
+    fn tag() -> Tag {
+        Tag::private(N)
+    }
+
+    ghost in_range = { Prim.search rules };
+
+    ghost not_end = { private_not_end N };
+}
+
+/// The tag that X.680 writes as `[UNIVERSAL N]`, of a type that has no notation of its own. Those of other numbers are no `TagName`.
+pub struct Universal<const N: u64>;
+
+impl TagName for Universal<7> {
+    ghost tag = { universal 7 };
+
+    #[inline(always)]
+    fn tag() -> Tag {
+        TAG_OBJECT_DESCRIPTOR
+    }
+
+    ghost in_range = { omega arith };
+
+    ghost not_end = { not_end 7 (λ e. omega arith) };
+}
+
+impl TagName for Universal<8> {
+    ghost tag = { universal 8 };
+
+    #[inline(always)]
+    fn tag() -> Tag {
+        TAG_EXT
+    }
+
+    ghost in_range = { omega arith };
+
+    ghost not_end = { not_end 8 (λ e. omega arith) };
+}
+
+impl TagName for Universal<9> {
+    ghost tag = { universal 9 };
+
+    #[inline(always)]
+    fn tag() -> Tag {
+        TAG_REAL
+    }
+
+    ghost in_range = { omega arith };
+
+    ghost not_end = { not_end 9 (λ e. omega arith) };
+}
+
+impl TagName for Universal<11> {
+    ghost tag = { universal 11 };
+
+    #[inline(always)]
+    fn tag() -> Tag {
+        TAG_EMBEDDED_PDV
+    }
+
+    ghost in_range = { omega arith };
+
+    ghost not_end = { not_end 11 (λ e. omega arith) };
+}
+
+impl TagName for Universal<13> {
+    ghost tag = { universal 13 };
+
+    #[inline(always)]
+    fn tag() -> Tag {
+        TAG_RELATIVE_OID
+    }
+
+    ghost in_range = { omega arith };
+
+    ghost not_end = { not_end 13 (λ e. omega arith) };
+}
+
+impl TagName for Universal<20> {
+    ghost tag = { universal 20 };
+
+    #[inline(always)]
+    fn tag() -> Tag {
+        TAG_TELETEXSTRING
+    }
+
+    ghost in_range = { omega arith };
+
+    ghost not_end = { not_end 20 (λ e. omega arith) };
+}
+
+impl TagName for Universal<21> {
+    ghost tag = { universal 21 };
+
+    #[inline(always)]
+    fn tag() -> Tag {
+        TAG_VIDEOTEXSTRING
+    }
+
+    ghost in_range = { omega arith };
+
+    ghost not_end = { not_end 21 (λ e. omega arith) };
+}
+
+impl TagName for Universal<25> {
+    ghost tag = { universal 25 };
+
+    #[inline(always)]
+    fn tag() -> Tag {
+        TAG_GRAPHICSTRING
+    }
+
+    ghost in_range = { omega arith };
+
+    ghost not_end = { not_end 25 (λ e. omega arith) };
+}
+
+impl TagName for Universal<27> {
+    ghost tag = { universal 27 };
+
+    #[inline(always)]
+    fn tag() -> Tag {
+        TAG_GENERALSTRING
+    }
+
+    ghost in_range = { omega arith };
+
+    ghost not_end = { not_end 27 (λ e. omega arith) };
+}
+
+impl TagName for Universal<28> {
+    ghost tag = { universal 28 };
+
+    #[inline(always)]
+    fn tag() -> Tag {
+        TAG_UNIVERSALSTRING
+    }
+
+    ghost in_range = { omega arith };
+
+    ghost not_end = { not_end 28 (λ e. omega arith) };
+}
+
+impl TagName for Universal<30> {
+    ghost tag = { universal 30 };
+
+    #[inline(always)]
+    fn tag() -> Tag {
+        TAG_BMPSTRING
+    }
+
+    ghost in_range = { omega arith };
+
+    ghost not_end = { not_end 30 (λ e. omega arith) };
+}
