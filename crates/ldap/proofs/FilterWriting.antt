@@ -61,3 +61,11 @@ pub so_of_item : {A : Type 0} (P : A → Type 0) (vs : List A) (i : ℕ) (v : A)
 so_of_item P [] i v a below is = absurd (omega (arith, below))
 so_of_item P (w ∷ ws) zero v a below is = subst P (sym is) a.0
 so_of_item P (w ∷ ws) (suc i) v a below is = so_of_item P ws i v a.1 (omega (arith, below)) is
+
+-- each is at most as deep as the deepest
+pub all_within_largest : {A : Type 0} (depth : A → ℕ) (vs : List A) → AllByRecursion (λ v. depth v ≤ largest (map depth vs)) vs
+all_within_largest {A} depth vs = go vs (omega arith)
+  where
+    go : (ws : List A) → largest (map depth ws) ≤ largest (map depth vs) → AllByRecursion (λ v. depth v ≤ largest (map depth vs)) ws
+    go [] h = tt
+    go (w ∷ ws) h = (omega (arith, h), go ws (omega (arith, h)))

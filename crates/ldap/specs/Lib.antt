@@ -7,3 +7,7 @@ pub mod FilterWriting
 pub mod TheFilter
 pub mod Reading
 pub mod Writing
+pub mod ResultCodes
+pub mod Scopes
+pub mod Aliases
+pub mod Known

@@ -9,21 +9,22 @@ ghost use Rattle.std.specs.Prelude.{◌≡◌, refl};
 ghost use Rattle.yasna_notation.specs.Laws.{represented_lawful, element_non_empty};
 ghost use Rattle.yasna_notation.specs.Making.{in_sequence, in_set_of, part, set_not_empty};
 ghost use Rattle.yasna_notation.specs.Notation.{represented_by};
-ghost use Rattle.yasna_notation.specs.Parts.{no_parts};
+ghost use Rattle.yasna_notation_types.specs.OpenChoice.{any_lawful};
+ghost use Rattle.yasna_notation_types.specs.Rest.{rest_laws};
 ghost use Rattle.yasna_notation.specs.contracts.strings.VecU8Notation.TheImpl.Laws.{lawful-law as octets};
-ghost use Rattle.yasna_notation.specs.Canonical.{represented_written};
-ghost use Rattle.yasna_notation.specs.Writing.{sequence_written, set_of_written, part_written, no_part_written, non_empty_set_written};
-ghost use Rattle.yasna_notation.specs.contracts.canonical.VecU8CanonicalNotation.TheImpl.Laws.{written-law as octets_written};
 
+use yasna::models::TaggedDerValue;
 use yasna::tags::TAG_SEQUENCE;
 use yasna::{ASN1Result, BERMode, BERReader, DERWriter, PrependBuffer, Tag};
-use yasna_notation::{
-    Bounded, CanonicalNotation, Message, NotEmpty, Notation, Represents, Sequence, SetOf, read_as,
-};
+use yasna_notation::{Bounded, Message, NotEmpty, Notation, Represents, Sequence, SetOf, read_as};
+use yasna_notation_types::Rest;
 
-type Parts = (Vec<u8>, (Bounded<SetOf<Vec<u8>>, NotEmpty>, ()));
+type Parts = (
+    Vec<u8>,
+    (Bounded<SetOf<Vec<u8>>, NotEmpty>, Rest<TaggedDerValue>),
+);
 
-type Fields = (Vec<u8>, (Vec<Vec<u8>>, ()));
+type Fields = (Vec<u8>, (Vec<Vec<u8>>, Vec<TaggedDerValue>));
 
 /// An attribute, with one value or more.
 #[derive(Drop)]
@@ -32,15 +33,18 @@ pub struct Attribute {
     pub attribute_type: Vec<u8>,
     /// Its values, one or more. They are in no order.
     pub vals: Vec<Vec<u8>>,
+    /// The components at the end that this version doesn't know, as they came.
+    pub unknown: Vec<TaggedDerValue>,
 }
 
 impl Represents<Fields> for Attribute {
-    ghost value_of = { λ v. (v.attribute_type, (v.vals, tt)) };
+    ghost value_of = { λ v. (v.attribute_type, (v.vals, v.unknown)) };
 
-    fn from_value((attribute_type, (vals, ())): Fields) -> Attribute {
+    fn from_value((attribute_type, (vals, unknown)): Fields) -> Attribute {
         Attribute {
             attribute_type,
             vals,
+            unknown,
         }
     }
 }
@@ -61,29 +65,35 @@ impl Notation for Attribute {
     }
 
     fn write(value: &Attribute, writer: DERWriter<'_>) -> ASN1Result<()> {
-        Sequence::<Parts>::write_fields((&value.attribute_type, (&value.vals, ())), writer)
+        Sequence::<Parts>::write_fields(
+            (&value.attribute_type, (&value.vals, &value.unknown)),
+            writer,
+        )
     }
 
     fn prepend(value: &Attribute, under: Option<Tag>, out: &mut PrependBuffer) -> ASN1Result<()> {
-        Sequence::<Parts>::prepend_fields((&value.attribute_type, (&value.vals, ())), under, out)
+        Sequence::<Parts>::prepend_fields(
+            (&value.attribute_type, (&value.vals, &value.unknown)),
+            under,
+            out,
+        )
     }
 
     fn encoded_len(value: &Attribute, under: Option<Tag>, mode: BERMode) -> Option<usize> {
-        Sequence::<Parts>::fields_len((&value.attribute_type, (&value.vals, ())), under, mode)
+        Sequence::<Parts>::fields_len(
+            (&value.attribute_type, (&value.vals, &value.unknown)),
+            under,
+            mode,
+        )
     }
 
     ghost lawful = { λ _. represented_lawful ⟦<Attribute as Represents<Fields>>⟧.value_of
         (in_sequence (part (octets refl).own (part (set_not_empty (in_set_of (octets
-        refl).own)).own no_parts))) };
+        refl).own)).own (rest_laws any_lawful.own)))) };
 
     ghost non_empty = { λ u m v. element_non_empty _ _ _ _ };
 }
 
 impl Message for Attribute {
     ghost is_unambiguous = { refl };
-}
-
-impl CanonicalNotation for Attribute {
-    ghost written = { λ _. represented_written ⟦<Attribute as Represents<Fields>>⟧.value_of (sequence_written (part_written (octets_written refl).own
-        (part_written (non_empty_set_written (set_of_written (octets_written refl).own)).own no_part_written))) };
 }

@@ -8,11 +8,14 @@
 //! ```
 ghost use Rattle.std.specs.Prelude.{◌≡◌, refl};
 ghost use Rattle.yasna_notation.specs.declared.choices.Either.TheVariants.{First, Second};
-ghost use Rattle.ldap.specs.declared.authentication.AuthenticationChoice.TheVariants.{Simple, Sasl};
+ghost use Rattle.ldap.specs.declared.authentication.AuthenticationChoice.TheVariants.{Simple, Sasl, Unknown};
 
 use crate::sasl_credentials::SaslCredentials;
+use yasna::models::TaggedDerValue;
 use yasna::{ASN1Result, BERMode, DERWriter, PrependBuffer, Tag};
-use yasna_notation::{Choice, Context, DefinedType, Either, Implicit, Notation};
+use yasna_notation::Either::{First, Second};
+use yasna_notation::{Context, DefinedType, Either, Implicit, Notation};
+use yasna_notation_types::OpenChoice;
 
 type SimpleNotation = Implicit<Context<0>, Vec<u8>>;
 
@@ -24,17 +27,22 @@ pub enum AuthenticationChoice {
     /// By a password.
     Simple(Vec<u8>),
     Sasl(SaslCredentials),
+    /// By a way that this version doesn't know, as it came.
+    Unknown(TaggedDerValue),
 }
 
 impl DefinedType for AuthenticationChoice {
-    type Notation = Choice<(SimpleNotation, (SaslNotation,))>;
+    type Notation = OpenChoice<(SimpleNotation, (SaslNotation,))>;
 
-    ghost value_of = { λ v. elim v [ Simple s ↦ First s | Sasl c ↦ Second c ] };
+    ghost value_of = { λ v. elim v [ Simple s ↦ First (First s) | Sasl c ↦ First (Second c) | Unknown x ↦ Second x ] };
 
-    fn from_value(value: Either<Vec<u8>, SaslCredentials>) -> AuthenticationChoice {
+    fn from_value(
+        value: Either<Either<Vec<u8>, SaslCredentials>, TaggedDerValue>,
+    ) -> AuthenticationChoice {
         match value {
-            Either::First(password) => AuthenticationChoice::Simple(password),
-            Either::Second(credentials) => AuthenticationChoice::Sasl(credentials),
+            First(First(password)) => AuthenticationChoice::Simple(password),
+            First(Second(credentials)) => AuthenticationChoice::Sasl(credentials),
+            Second(other) => AuthenticationChoice::Unknown(other),
         }
     }
 
@@ -42,6 +50,7 @@ impl DefinedType for AuthenticationChoice {
         match self {
             AuthenticationChoice::Simple(password) => SimpleNotation::write(password, writer),
             AuthenticationChoice::Sasl(credentials) => SaslNotation::write(credentials, writer),
+            AuthenticationChoice::Unknown(other) => TaggedDerValue::write(other, writer),
         }
     }
 
@@ -53,6 +62,7 @@ impl DefinedType for AuthenticationChoice {
                 under,
                 out,
             ),
+            AuthenticationChoice::Unknown(other) => TaggedDerValue::prepend(other, under, out),
         }
     }
 
@@ -66,6 +76,7 @@ impl DefinedType for AuthenticationChoice {
                 under,
                 mode,
             ),
+            AuthenticationChoice::Unknown(other) => TaggedDerValue::encoded_len(other, under, mode),
         }
     }
 

@@ -4,7 +4,8 @@
 //! BindRequest ::= [APPLICATION 0] SEQUENCE {
 //!     version         INTEGER (1 .. 127),
 //!     name            LDAPDN,
-//!     authentication  AuthenticationChoice }
+//!     authentication  AuthenticationChoice,
+//!     ... }
 //!
 //! LDAPDN     ::= LDAPString
 //! LDAPString ::= OCTET STRING
@@ -12,34 +13,31 @@
 ghost use Rattle.std.specs.Prelude.{◌≡◌, refl};
 ghost use Rattle.std.proofs.Common.{arith};
 ghost use Rattle.yasna_notation.specs.Laws.{represented_lawful, element_non_empty};
-ghost use Rattle.yasna_notation.specs.Making.{in_application, in_sequence, in_choice, alternative, in_implicit, part, in_bound, from_to};
+ghost use Rattle.yasna_notation.specs.Making.{in_application, in_sequence, alternative, in_implicit, part, in_bound, from_to};
 ghost use Rattle.yasna_notation.specs.Notation.{represented_by};
-ghost use Rattle.yasna_notation.specs.Parts.{no_parts};
+ghost use Rattle.yasna_notation_types.specs.OpenChoice.{any_lawful, open_lawful};
+ghost use Rattle.yasna_notation_types.specs.Rest.{rest_laws};
 ghost use Rattle.yasna_notation.specs.contracts.strings.VecU8Notation.TheImpl.Laws.{lawful-law as octets};
 ghost use Rattle.yasna_notation.specs.contracts.simple.U64Notation.TheImpl.Laws.{lawful-law as number};
 ghost use Rattle.ldap.specs.contracts.sasl_credentials.SaslCredentialsNotation.TheImpl.Laws.{lawful-law as sasl};
-ghost use Rattle.yasna_notation.specs.Canonical.{represented_written, choice_written_as};
-ghost use Rattle.yasna_notation.specs.Writing.{sequence_written, alternative_written, under_context, under_application, part_written};
-ghost use Rattle.yasna_notation.specs.Writing.{no_part_written, bound_written};
-ghost use Rattle.ldap.specs.contracts.sasl_credentials.SaslCredentialsCanonicalNotation.TheImpl.Laws.{written-law as sasl_written};
-ghost use Rattle.yasna_notation.specs.contracts.canonical.U64CanonicalNotation.TheImpl.Laws.{written-law as number_written};
-ghost use Rattle.yasna_notation.specs.contracts.canonical.VecU8CanonicalNotation.TheImpl.Laws.{written-law as octets_written};
 
 use crate::authentication::AuthenticationChoice;
 use crate::sasl_credentials::SaslCredentials;
 use crate::tagged::{prepend_tagged_fields, tagged_fields_len, write_tagged_fields};
+use yasna::models::TaggedDerValue;
 use yasna::{ASN1Result, BERMode, BERReader, DERWriter, PrependBuffer, Tag};
 use yasna_notation::{
-    Application, Bounded, CanonicalNotation, Choice, Context, DefinedType, FromTo, Implicit,
-    Message, Notation, Represents, Sequence, read_as,
+    Application, Bounded, Choice, Context, DefinedType, FromTo, Implicit, Message, Notation,
+    Represents, Sequence, read_as,
 };
+use yasna_notation_types::Rest;
 
 type Parts = (
     Bounded<u64, FromTo<1, 127>>,
-    (Vec<u8>, (AuthenticationChoice, ())),
+    (Vec<u8>, (AuthenticationChoice, Rest<TaggedDerValue>)),
 );
 
-type Fields = (u64, (Vec<u8>, (AuthenticationChoice, ())));
+type Fields = (u64, (Vec<u8>, (AuthenticationChoice, Vec<TaggedDerValue>)));
 
 type Notated = Implicit<Application<0>, Sequence<Parts>>;
 
@@ -51,16 +49,19 @@ pub struct BindRequest {
     /// Of who binds, in UTF-8; empty for nobody.
     pub name: Vec<u8>,
     pub authentication: AuthenticationChoice,
+    /// The components at the end that this version doesn't know, as they came.
+    pub unknown: Vec<TaggedDerValue>,
 }
 
 impl Represents<Fields> for BindRequest {
-    ghost value_of = { λ v. (v.version, (v.name, (v.authentication, tt))) };
+    ghost value_of = { λ v. (v.version, (v.name, (v.authentication, v.unknown))) };
 
-    fn from_value((version, (name, (authentication, ()))): Fields) -> BindRequest {
+    fn from_value((version, (name, (authentication, unknown))): Fields) -> BindRequest {
         BindRequest {
             version,
             name,
             authentication,
+            unknown,
         }
     }
 }
@@ -82,14 +83,20 @@ impl Notation for BindRequest {
 
     fn write(value: &BindRequest, writer: DERWriter<'_>) -> ASN1Result<()> {
         write_tagged_fields::<Application<0>, Parts, _>(
-            (&value.version, (&value.name, (&value.authentication, ()))),
+            (
+                &value.version,
+                (&value.name, (&value.authentication, &value.unknown)),
+            ),
             writer,
         )
     }
 
     fn prepend(value: &BindRequest, under: Option<Tag>, out: &mut PrependBuffer) -> ASN1Result<()> {
         prepend_tagged_fields::<Application<0>, Parts, _>(
-            (&value.version, (&value.name, (&value.authentication, ()))),
+            (
+                &value.version,
+                (&value.name, (&value.authentication, &value.unknown)),
+            ),
             under,
             out,
         )
@@ -97,7 +104,10 @@ impl Notation for BindRequest {
 
     fn encoded_len(value: &BindRequest, under: Option<Tag>, mode: BERMode) -> Option<usize> {
         tagged_fields_len::<Application<0>, Parts, _>(
-            (&value.version, (&value.name, (&value.authentication, ()))),
+            (
+                &value.version,
+                (&value.name, (&value.authentication, &value.unknown)),
+            ),
             under,
             mode,
         )
@@ -105,21 +115,13 @@ impl Notation for BindRequest {
 
     ghost lawful = { λ _. represented_lawful ⟦<BindRequest as Represents<Fields>>⟧.value_of
         (in_application 0 (omega arith) (in_sequence (part (in_bound (from_to 1 127) (number
-        refl)).own (part (octets refl).own (part (represented_lawful ⟦<AuthenticationChoice as DefinedType>⟧.value_of (in_choice ⟦<Choice<(Implicit<Context<0>,
+        refl)).own (part (octets refl).own (part (represented_lawful ⟦<AuthenticationChoice as DefinedType>⟧.value_of (open_lawful ⟦<Choice<(Implicit<Context<0>,
       Vec<u8>>, (Implicit<Context<3>, SaslCredentials>,))> as Notation>⟧.means.encoding_under (alternative (in_implicit 0 (omega arith) (octets refl)).own refl
-        (in_implicit 3 (omega arith) (sasl refl)).own))).own no_parts))))) };
+        (in_implicit 3 (omega arith) (sasl refl)).own))).own (rest_laws any_lawful.own)))))) };
 
     ghost non_empty = { λ u m v. element_non_empty _ _ _ _ };
 }
 
 impl Message for BindRequest {
     ghost is_unambiguous = { refl };
-}
-
-impl CanonicalNotation for BindRequest {
-    ghost written = { λ _. represented_written ⟦<BindRequest as Represents<Fields>>⟧.value_of (under_application 0 (omega arith) (sequence_written
-        (part_written (bound_written (from_to 1 127) (number_written refl)).own (part_written (octets_written refl).own (part_written
-        (represented_written ⟦<AuthenticationChoice as DefinedType>⟧.value_of (choice_written_as ⟦<Choice<(Implicit<Context<0>, Vec<u8>>,
-        (Implicit<Context<3>, SaslCredentials>,))> as Notation>⟧.means.encoding_under (alternative_written (under_context 0 (omega arith) (octets_written
-        refl)).own (under_context 3 (omega arith) (sasl_written refl)).own))).own no_part_written))))) };
 }

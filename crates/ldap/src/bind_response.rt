@@ -3,41 +3,47 @@
 //! ```text
 //! BindResponse ::= [APPLICATION 1] SEQUENCE {
 //!     COMPONENTS OF LDAPResult,
-//!     serverSaslCreds  [7] OCTET STRING OPTIONAL }
+//!     serverSaslCreds  [7] OCTET STRING OPTIONAL,
+//!     ... }
 //! ```
-ghost use Rattle.std.specs.Prelude.{◌≡◌, refl};
+ghost use Rattle.std.specs.Prelude.{◌≡◌, ◌∷◌, [], refl};
 ghost use Rattle.std.proofs.Common.{arith};
 ghost use Rattle.yasna_notation.specs.Laws.{represented_lawful, element_non_empty};
-ghost use Rattle.yasna_notation.specs.Making.{in_application, in_sequence, in_sequence_of, part, optional_part, in_implicit, not_empty, in_bound, from_zero};
+ghost use Rattle.yasna_notation.specs.Making.{context, in_application, in_sequence, in_sequence_of, part, in_implicit, not_empty};
 ghost use Rattle.yasna_notation.specs.Notation.{represented_by};
-ghost use Rattle.yasna_notation.specs.Parts.{no_parts};
+ghost use Rattle.yasna_notation_types.specs.OpenChoice.{any_lawful};
+ghost use Rattle.yasna_notation_types.specs.Others.{other_may, others_laws, others_within, possible, possible_may, possible_within};
+ghost use Rattle.ldap.specs.Known.{after_message};
 ghost use Rattle.yasna_notation.specs.contracts.strings.VecU8Notation.TheImpl.Laws.{lawful-law as octets};
-ghost use Rattle.yasna_notation.specs.contracts.simple.EnumeratedNotation.TheImpl.Laws.{lawful-law as enumerated};
-ghost use Rattle.yasna_notation.specs.Canonical.{represented_written};
-ghost use Rattle.yasna_notation.specs.Writing.{sequence_written, sequence_of_written, under_context, under_application, part_written};
-ghost use Rattle.yasna_notation.specs.Writing.{optional_written, no_part_written, bound_written, non_empty_list_written};
-ghost use Rattle.yasna_notation.specs.contracts.canonical.EnumeratedCanonicalNotation.TheImpl.Laws.{written-law as enumerated_written};
-ghost use Rattle.yasna_notation.specs.contracts.canonical.VecU8CanonicalNotation.TheImpl.Laws.{written-law as octets_written};
+ghost use Rattle.yasna_notation.specs.Bounded.{from_zero};
+ghost use Rattle.yasna_notation_types.specs.Named.{named_lawful};
+ghost use Rattle.ldap.specs.ResultCodes.{code_number, code_writable};
 
 use crate::ldap_result::LdapResult;
+use crate::result_code::ResultCode;
 use crate::tagged::{prepend_tagged_fields, tagged_fields_len, write_tagged_fields};
+use yasna::models::TaggedDerValue;
 use yasna::{ASN1Result, BERMode, BERReader, DERWriter, PrependBuffer, Tag};
 use yasna_notation::{
-    Application, Bounded, CanonicalNotation, Context, Enumerated, FromZero, Implicit, Message,
-    NotEmpty, Notation, Optional, Represents, Sequence, SequenceOf, read_as,
+    Application, Bounded, Choice, Context, Implicit, Message, NotEmpty, Notation, Represents,
+    Sequence, SequenceOf, read_as,
 };
+use yasna_notation_types::{Named, Others, Possible};
 
 type Referral = Implicit<Context<3>, Bounded<SequenceOf<Vec<u8>>, NotEmpty>>;
 
 type ServerSaslCreds = Implicit<Context<7>, Vec<u8>>;
 
-type Ends = (Optional<Referral>, (Optional<ServerSaslCreds>, ()));
+// Others have neither of the tags of `Referral` and `ServerSaslCreds`.
+type Unknown = Others<Choice<(Implicit<Context<3>, ()>, (Implicit<Context<7>, ()>,))>>;
 
-type Parts = (Bounded<Enumerated, FromZero>, (Vec<u8>, (Vec<u8>, Ends)));
+type Ends = Possible<Referral, Possible<ServerSaslCreds, Unknown>>;
 
-type EndFields = (Option<Vec<Vec<u8>>>, (Option<Vec<u8>>, ()));
+type Parts = (Named<ResultCode>, (Vec<u8>, (Vec<u8>, Ends)));
 
-type Fields = (i64, (Vec<u8>, (Vec<u8>, EndFields)));
+type EndFields = (Option<Vec<Vec<u8>>>, (Option<Vec<u8>>, Vec<TaggedDerValue>));
+
+type Fields = (ResultCode, (Vec<u8>, (Vec<u8>, EndFields)));
 
 type Notated = Implicit<Application<1>, Sequence<Parts>>;
 
@@ -50,12 +56,12 @@ pub struct BindResponse {
 }
 
 impl Represents<Fields> for BindResponse {
-    ghost value_of = { λ v. (v.result.result_code, (v.result.matched_dn, (v.result.diagnostic_message, (v.result.referral, (v.server_sasl_creds, tt))))) };
+    ghost value_of = { λ v. (v.result.result_code, (v.result.matched_dn, (v.result.diagnostic_message, (v.result.referral, (v.server_sasl_creds, v.result.unknown))))) };
 
     fn from_value(
         (
             result_code,
-            (matched_dn, (diagnostic_message, (referral, (server_sasl_creds, ())))),
+            (matched_dn, (diagnostic_message, (referral, (server_sasl_creds, unknown)))),
         ): Fields,
     ) -> BindResponse {
         let outcome = LdapResult {
@@ -63,6 +69,7 @@ impl Represents<Fields> for BindResponse {
             matched_dn,
             diagnostic_message,
             referral,
+            unknown,
         };
         BindResponse {
             result: outcome,
@@ -88,7 +95,10 @@ impl Notation for BindResponse {
 
     fn write(value: &BindResponse, writer: DERWriter<'_>) -> ASN1Result<()> {
         let outcome = &value.result;
-        let ends = (&outcome.referral, (&value.server_sasl_creds, ()));
+        let ends = (
+            &outcome.referral,
+            (&value.server_sasl_creds, &outcome.unknown),
+        );
         let strings = (&outcome.matched_dn, (&outcome.diagnostic_message, ends));
         write_tagged_fields::<Application<1>, Parts, _>((&outcome.result_code, strings), writer)
     }
@@ -99,7 +109,10 @@ impl Notation for BindResponse {
         out: &mut PrependBuffer,
     ) -> ASN1Result<()> {
         let outcome = &value.result;
-        let ends = (&outcome.referral, (&value.server_sasl_creds, ()));
+        let ends = (
+            &outcome.referral,
+            (&value.server_sasl_creds, &outcome.unknown),
+        );
         let strings = (&outcome.matched_dn, (&outcome.diagnostic_message, ends));
         prepend_tagged_fields::<Application<1>, Parts, _>(
             (&outcome.result_code, strings),
@@ -110,26 +123,24 @@ impl Notation for BindResponse {
 
     fn encoded_len(value: &BindResponse, under: Option<Tag>, mode: BERMode) -> Option<usize> {
         let outcome = &value.result;
-        let ends = (&outcome.referral, (&value.server_sasl_creds, ()));
+        let ends = (
+            &outcome.referral,
+            (&value.server_sasl_creds, &outcome.unknown),
+        );
         let strings = (&outcome.matched_dn, (&outcome.diagnostic_message, ends));
         tagged_fields_len::<Application<1>, Parts, _>((&outcome.result_code, strings), under, mode)
     }
 
     ghost lawful = { λ _. represented_lawful ⟦<BindResponse as Represents<Fields>>⟧.value_of
-        (in_application 1 (omega arith) (in_sequence (part (in_bound from_zero (enumerated
-        refl)).own (part (octets refl).own (part (octets refl).own (optional_part refl (in_implicit 3 (omega arith) (not_empty (in_sequence_of (octets
-        refl).own))).own (optional_part refl (in_implicit 7 (omega arith) (octets refl)).own no_parts))))))) };
+        (in_application 1 (omega arith) (in_sequence (part (named_lawful code_number from_zero code_writable).own (part (octets refl).own (part (octets refl).own (possible (possible_may (context 7 ∷ []) (other_may after_message)) refl
+        (in_implicit 3 (omega arith) (not_empty (in_sequence_of (octets refl).own))).own
+        (possible (other_may after_message) refl (in_implicit 7 (omega arith) (octets refl)).own (others_laws after_message any_lawful.own)
+        (others_within after_message any_lawful.own.coding))
+        (possible_within (other_may after_message) (in_implicit 7 (omega arith) (octets refl)).own (others_within after_message any_lawful.own.coding)))))))) };
 
     ghost non_empty = { λ u m v. element_non_empty _ _ _ _ };
 }
 
 impl Message for BindResponse {
     ghost is_unambiguous = { refl };
-}
-
-impl CanonicalNotation for BindResponse {
-    ghost written = { λ _. represented_written ⟦<BindResponse as Represents<Fields>>⟧.value_of (under_application 1 (omega arith) (sequence_written
-        (part_written (bound_written from_zero (enumerated_written refl)).own (part_written (octets_written refl).own (part_written (octets_written
-        refl).own (optional_written (under_context 3 (omega arith) (non_empty_list_written (sequence_of_written (octets_written refl).own))).own
-        (optional_written (under_context 7 (omega arith) (octets_written refl)).own no_part_written))))))) };
 }

@@ -4,31 +4,37 @@
 //! Control ::= SEQUENCE {
 //!     controlType   LDAPOID,
 //!     criticality   BOOLEAN DEFAULT FALSE,
-//!     controlValue  OCTET STRING OPTIONAL }
+//!     controlValue  OCTET STRING OPTIONAL,
+//!     ... }
 //!
 //! LDAPOID ::= OCTET STRING
 //! ```
-ghost use Rattle.std.specs.Prelude.{◌≡◌, false, not, refl};
+ghost use Rattle.std.specs.Prelude.{◌≡◌, ◌∷◌, [], false, not, refl};
 ghost use Rattle.yasna_notation.specs.Laws.{represented_lawful, element_non_empty};
-ghost use Rattle.yasna_notation.specs.Making.{in_sequence, part, optional_part, default_part};
+ghost use Rattle.yasna_notation.specs.Making.{in_sequence, part};
 ghost use Rattle.yasna_notation.specs.Notation.{represented_by};
-ghost use Rattle.yasna_notation.specs.Parts.{no_parts, detects_false};
+ghost use Rattle.yasna_notation.specs.Parts.{detects_false};
+ghost use Rattle.yasna_base.specs.Octets.{octets_tag};
+ghost use Rattle.yasna_notation_types.specs.OpenChoice.{any_lawful};
+ghost use Rattle.yasna_notation_types.specs.Others.{other_may, others_laws, others_within, possible, possible_default, possible_may, possible_within};
+ghost use Rattle.ldap.specs.Known.{after_type};
 ghost use Rattle.yasna_notation.specs.contracts.strings.VecU8Notation.TheImpl.Laws.{lawful-law as octets};
 ghost use Rattle.yasna_notation.specs.contracts.simple.BoolNotation.TheImpl.Laws.{lawful-law as flag};
-ghost use Rattle.yasna_notation.specs.Canonical.{represented_written};
-ghost use Rattle.yasna_notation.specs.Writing.{sequence_written, part_written, optional_written, no_part_written, unset_written};
-ghost use Rattle.yasna_notation.specs.contracts.canonical.BoolCanonicalNotation.TheImpl.Laws.{written-law as flag_written};
-ghost use Rattle.yasna_notation.specs.contracts.canonical.VecU8CanonicalNotation.TheImpl.Laws.{written-law as octets_written};
 
+use yasna::models::TaggedDerValue;
 use yasna::tags::TAG_SEQUENCE;
 use yasna::{ASN1Result, BERMode, BERReader, DERWriter, PrependBuffer, Tag};
-use yasna_notation::{
-    CanonicalNotation, Default, False, Message, Notation, Optional, Represents, Sequence, read_as,
-};
+use yasna_notation::{Choice, False, Message, Notation, Represents, Sequence, read_as};
+use yasna_notation_types::{Others, Possible, PossibleDefault};
 
-type Parts = (Vec<u8>, (Default<bool, False>, (Optional<Vec<u8>>, ())));
+type Unknown = Others<Choice<(bool, (Vec<u8>,))>>;
 
-type Fields = (Vec<u8>, (bool, (Option<Vec<u8>>, ())));
+type Parts = (
+    Vec<u8>,
+    PossibleDefault<bool, False, Possible<Vec<u8>, Unknown>>,
+);
+
+type Fields = (Vec<u8>, (bool, (Option<Vec<u8>>, Vec<TaggedDerValue>)));
 
 /// A control: how its operation is extended.
 #[derive(Drop)]
@@ -38,16 +44,19 @@ pub struct Control {
     /// Whether one who doesn't know the control rejects the operation.
     pub criticality: bool,
     pub control_value: Option<Vec<u8>>,
+    /// The components at the end that this version doesn't know, as they came.
+    pub unknown: Vec<TaggedDerValue>,
 }
 
 impl Represents<Fields> for Control {
-    ghost value_of = { λ v. (v.control_type, (v.criticality, (v.control_value, tt))) };
+    ghost value_of = { λ v. (v.control_type, (v.criticality, (v.control_value, v.unknown))) };
 
-    fn from_value((control_type, (criticality, (control_value, ()))): Fields) -> Control {
+    fn from_value((control_type, (criticality, (control_value, unknown))): Fields) -> Control {
         Control {
             control_type,
             criticality,
             control_value,
+            unknown,
         }
     }
 }
@@ -71,7 +80,7 @@ impl Notation for Control {
         Sequence::<Parts>::write_fields(
             (
                 &value.control_type,
-                (&value.criticality, (&value.control_value, ())),
+                (&value.criticality, (&value.control_value, &value.unknown)),
             ),
             writer,
         )
@@ -81,7 +90,7 @@ impl Notation for Control {
         Sequence::<Parts>::prepend_fields(
             (
                 &value.control_type,
-                (&value.criticality, (&value.control_value, ())),
+                (&value.criticality, (&value.control_value, &value.unknown)),
             ),
             under,
             out,
@@ -92,7 +101,7 @@ impl Notation for Control {
         Sequence::<Parts>::fields_len(
             (
                 &value.control_type,
-                (&value.criticality, (&value.control_value, ())),
+                (&value.criticality, (&value.control_value, &value.unknown)),
             ),
             under,
             mode,
@@ -100,17 +109,14 @@ impl Notation for Control {
     }
 
     ghost lawful = { λ _. represented_lawful ⟦<Control as Represents<Fields>>⟧.value_of
-        (in_sequence (part (octets refl).own (default_part not false detects_false refl (flag refl).own
-        (optional_part refl (octets refl).own no_parts)))) };
+        (in_sequence (part (octets refl).own (possible_default (possible_may (octets_tag ∷ []) (other_may after_type)) not false
+        detects_false refl (flag refl).own (possible (other_may after_type) refl (octets refl).own (others_laws after_type any_lawful.own)
+        (others_within after_type any_lawful.own.coding)) (possible_within (other_may after_type) (octets refl).own
+        (others_within after_type any_lawful.own.coding))))) };
 
     ghost non_empty = { λ u m v. element_non_empty _ _ _ _ };
 }
 
 impl Message for Control {
     ghost is_unambiguous = { refl };
-}
-
-impl CanonicalNotation for Control {
-    ghost written = { λ _. represented_written ⟦<Control as Represents<Fields>>⟧.value_of (sequence_written (part_written (octets_written refl).own
-        (unset_written (flag_written refl).own (optional_written (octets_written refl).own no_part_written)))) };
 }

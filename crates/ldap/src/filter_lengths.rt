@@ -1,16 +1,15 @@
-//! How long filters are, and how they are prepended to a buffer (RFC 4511, 4.5.1.7).
+//! How long filters are (RFC 4511, 4.5.1.7).
 ghost use Rattle.std.specs.Prelude.{None};
 ghost use Rattle.std.specs.List.{AllByRecursion};
 ghost use Rattle.yasna_base.specs.AnyOrder.{sorted_set_of_encoding};
 ghost use Rattle.yasna_base.specs.Canonical.{enclosed_encoding};
 ghost use Rattle.yasna_base.specs.SequenceOf.{elements_encoding};
-ghost use Rattle.yasna_writer.specs.Prepend.{Prepends, KnownLength};
+ghost use Rattle.yasna_writer.specs.Prepend.{KnownLength};
 ghost use Rattle.ldap.specs.Filters.{the_filter};
 
 use crate::filter::Filter;
 use crate::filter_item::FilterItem;
-use crate::filter_writing::write_filter;
-use yasna::{ASN1Result, BERMode, PrependBuffer, Tag, constructed_len};
+use yasna::{BERMode, Tag, constructed_len};
 use yasna_notation::Notation;
 
 // The length of filters, one after the other.
@@ -60,21 +59,4 @@ pub(crate) fn filter_len(value: &Filter, under: Option<Tag>, mode: BERMode) -> O
         Filter::Not(negated) => negated_len(negated, under.unwrap_or(Tag::context(2)), mode),
         Filter::Item(item) => <FilterItem as Notation>::encoded_len(item, under, mode),
     }
-}
-
-/// Prepends a filter to a buffer. One that holds others is written separately, since the filters of a group are put in order.
-pub(crate) fn prepend_filter(
-    value: &Filter,
-    under: Option<Tag>,
-    out: &mut PrependBuffer,
-) -> ASN1Result<()>
-    requires { the_filter.can value.now }
-    ensures { Prepends (the_filter.encoding_under under out.old.mode value.now) out.old out.new result }
-{
-    if let Filter::Item(item) = value {
-        return <FilterItem as Notation>::prepend(item, under, out);
-    }
-    let mut writer = out.writer_under(under);
-    write_filter(value, &mut writer)?;
-    out.prepend_written(&mut writer)
 }

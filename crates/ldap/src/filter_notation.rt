@@ -5,7 +5,8 @@ ghost use Rattle.ldap.specs.TheFilter.{the_filter_lawful, the_filter_non_empty, 
 
 use crate::filter::Filter;
 use crate::filter_item::FilterItem;
-use crate::filter_lengths::{filter_len, prepend_filter};
+use crate::filter_lengths::filter_len;
+use crate::filter_prepending::prepend_filter;
 use crate::filter_reading::{is_context, read_filter};
 use crate::filter_writing::write_filter;
 use yasna::{ASN1Result, BERMode, BERReader, DERWriter, PrependBuffer, Tag};

@@ -6,7 +6,7 @@ ghost use Rattle.yasna_base.specs.Canonical.{enclosed_encoding};
 ghost use Rattle.yasna_base.specs.Identifier.{context, tag_or};
 ghost use Rattle.yasna_base.specs.Set.{set_tag};
 ghost use Rattle.yasna_base.specs.SetWriting.{encodings};
-ghost use Rattle.yasna_writer.specs.Parts.{no_parts};
+ghost use Rattle.yasna_writer.specs.Parts.{begun_set};
 ghost use Rattle.yasna_writer.specs.View.{Writes};
 ghost use Rattle.yasna_notation.specs.Sets.{FailsOnlyOutOfMemory, WroteElement, WroteElements};
 ghost use Rattle.ldap.specs.Filters.{the_filter};
@@ -23,7 +23,7 @@ where
     F: FnMut(&Filter, DERWriter) -> ASN1Result<()> + Drop,
     requires takes { TakesEach F.FnMut items.now }
     requires writes { WritesEach F.FnMut (the_filter.encoding_under None) }
-    requires begins { set.old ≡ no_parts set.old.mode }
+    requires begins { set.old ≡ begun_set set.old.mode }
     ensures { WroteElements (encodings (the_filter.encoding_under None) set.old.mode items.now) set.new result }
 {
     let mut write = f;

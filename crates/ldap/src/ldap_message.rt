@@ -4,44 +4,49 @@
 //! LDAPMessage ::= SEQUENCE {
 //!     messageID   MessageID,
 //!     protocolOp  CHOICE { .. },
-//!     controls    [0] Controls OPTIONAL }
+//!     controls    [0] Controls OPTIONAL,
+//!     ... }
 //!
 //! MessageID ::= INTEGER (0 .. maxInt)
 //! Controls  ::= SEQUENCE OF control Control
 //!
 //! maxInt INTEGER ::= 2147483647
 //! ```
-ghost use Rattle.std.specs.Prelude.{◌≡◌, refl};
+ghost use Rattle.std.specs.Prelude.{◌≡◌, ◌∷◌, [], refl};
 ghost use Rattle.std.proofs.Common.{arith};
 ghost use Rattle.yasna_notation.specs.Laws.{represented_lawful, element_non_empty};
-ghost use Rattle.yasna_notation.specs.Making.{in_sequence, in_sequence_of, part, optional_part, in_implicit, at_most};
+ghost use Rattle.yasna_notation.specs.Making.{context, in_sequence, in_sequence_of, part, in_implicit, at_most};
 ghost use Rattle.yasna_notation.specs.Notation.{represented_by};
-ghost use Rattle.yasna_notation.specs.Parts.{no_parts};
+ghost use Rattle.yasna_notation_types.specs.OpenChoice.{any_lawful};
+ghost use Rattle.yasna_notation_types.specs.Others.{other_may, others_laws, others_within, possible};
 ghost use Rattle.yasna_notation.specs.contracts.simple.U64Notation.TheImpl.Laws.{lawful-law as number};
 ghost use Rattle.ldap.specs.contracts.protocol_op.ProtocolOpNotation.TheImpl.Laws.{lawful-law as operation};
 ghost use Rattle.ldap.specs.contracts.control.ControlNotation.TheImpl.Laws.{lawful-law as control};
-ghost use Rattle.yasna_notation.specs.Canonical.{represented_written};
-ghost use Rattle.yasna_notation.specs.Writing.{sequence_written, sequence_of_written, under_context, part_written, optional_written, no_part_written, at_most_written};
-ghost use Rattle.ldap.specs.contracts.control.ControlCanonicalNotation.TheImpl.Laws.{written-law as control_written};
-ghost use Rattle.ldap.specs.contracts.protocol_op.ProtocolOpCanonicalNotation.TheImpl.Laws.{written-law as operation_written};
-ghost use Rattle.yasna_notation.specs.contracts.canonical.U64CanonicalNotation.TheImpl.Laws.{written-law as number_written};
 
 use crate::control::Control;
 use crate::protocol_op::ProtocolOp;
+use yasna::models::TaggedDerValue;
 use yasna::tags::TAG_SEQUENCE;
 use yasna::{ASN1Result, BERMode, BERReader, DERWriter, PrependBuffer, Tag};
 use yasna_notation::{
-    AtMost, Bounded, CanonicalNotation, Context, Implicit, Message, Notation, Optional, Represents,
-    Sequence, SequenceOf, read_as,
+    AtMost, Bounded, Context, Implicit, Message, Notation, Represents, Sequence, SequenceOf,
+    read_as,
 };
+use yasna_notation_types::{Others, Possible};
 
 type MessageId = Bounded<u64, AtMost<2147483647>>;
 
 type Controls = Implicit<Context<0>, SequenceOf<Control>>;
 
-type Parts = (MessageId, (ProtocolOp, (Optional<Controls>, ())));
+type Parts = (
+    MessageId,
+    (ProtocolOp, Possible<Controls, Others<Controls>>),
+);
 
-type Fields = (u64, (ProtocolOp, (Option<Vec<Control>>, ())));
+type Fields = (
+    u64,
+    (ProtocolOp, (Option<Vec<Control>>, Vec<TaggedDerValue>)),
+);
 
 /// A message.
 #[derive(Drop)]
@@ -50,16 +55,19 @@ pub struct LdapMessage {
     pub message_id: u64,
     pub protocol_op: ProtocolOp,
     pub controls: Option<Vec<Control>>,
+    /// The components at the end that this version doesn't know, as they came.
+    pub unknown: Vec<TaggedDerValue>,
 }
 
 impl Represents<Fields> for LdapMessage {
-    ghost value_of = { λ v. (v.message_id, (v.protocol_op, (v.controls, tt))) };
+    ghost value_of = { λ v. (v.message_id, (v.protocol_op, (v.controls, v.unknown))) };
 
-    fn from_value((message_id, (protocol_op, (controls, ()))): Fields) -> LdapMessage {
+    fn from_value((message_id, (protocol_op, (controls, unknown))): Fields) -> LdapMessage {
         LdapMessage {
             message_id,
             protocol_op,
             controls,
+            unknown,
         }
     }
 }
@@ -83,7 +91,7 @@ impl Notation for LdapMessage {
         Sequence::<Parts>::write_fields(
             (
                 &value.message_id,
-                (&value.protocol_op, (&value.controls, ())),
+                (&value.protocol_op, (&value.controls, &value.unknown)),
             ),
             writer,
         )
@@ -97,7 +105,7 @@ impl Notation for LdapMessage {
         Sequence::<Parts>::prepend_fields(
             (
                 &message.message_id,
-                (&message.protocol_op, (&message.controls, ())),
+                (&message.protocol_op, (&message.controls, &message.unknown)),
             ),
             under,
             out,
@@ -108,7 +116,7 @@ impl Notation for LdapMessage {
         Sequence::<Parts>::fields_len(
             (
                 &message.message_id,
-                (&message.protocol_op, (&message.controls, ())),
+                (&message.protocol_op, (&message.controls, &message.unknown)),
             ),
             under,
             mode,
@@ -117,17 +125,12 @@ impl Notation for LdapMessage {
 
     ghost lawful = { λ _. represented_lawful ⟦<LdapMessage as Represents<Fields>>⟧.value_of
         (in_sequence (part (at_most 2147483647 (number refl)).own (part (operation refl).own
-        (optional_part refl (in_implicit 0 (omega arith) (in_sequence_of (control refl).own)).own no_parts)))) };
+        (possible (other_may (context 0 ∷ [])) refl (in_implicit 0 (omega arith) (in_sequence_of (control refl).own)).own
+        (others_laws (context 0 ∷ []) any_lawful.own) (others_within (context 0 ∷ []) any_lawful.own.coding))))) };
 
     ghost non_empty = { λ u m v. element_non_empty _ _ _ _ };
 }
 
 impl Message for LdapMessage {
     ghost is_unambiguous = { refl };
-}
-
-impl CanonicalNotation for LdapMessage {
-    ghost written = { λ _. represented_written ⟦<LdapMessage as Represents<Fields>>⟧.value_of (sequence_written (part_written (at_most_written 2147483647
-        (number_written refl)).own (part_written (operation_written refl).own (optional_written (under_context 0 (omega arith) (sequence_of_written
-        (control_written refl).own)).own no_part_written)))) };
 }

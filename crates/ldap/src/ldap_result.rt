@@ -2,70 +2,81 @@
 //!
 //! ```text
 //! LDAPResult ::= SEQUENCE {
-//!     resultCode         ENUMERATED { success(0), operationsError(1), .. other(80), ... },
+//!     resultCode         ENUMERATED { .. },
 //!     matchedDN          LDAPDN,
 //!     diagnosticMessage  LDAPString,
-//!     referral           [3] Referral OPTIONAL }
+//!     referral           [3] Referral OPTIONAL,
+//!     ... }
 //!
 //! Referral   ::= SEQUENCE SIZE (1..MAX) OF uri URI
 //! URI        ::= LDAPString
 //! LDAPDN     ::= LDAPString
 //! LDAPString ::= OCTET STRING
 //! ```
-ghost use Rattle.std.specs.Prelude.{◌≡◌, refl};
+ghost use Rattle.std.specs.Prelude.{◌≡◌, ◌∷◌, [], refl};
 ghost use Rattle.std.proofs.Common.{arith};
 ghost use Rattle.yasna_notation.specs.Laws.{represented_lawful, element_non_empty};
-ghost use Rattle.yasna_notation.specs.Making.{in_sequence, in_sequence_of, part, optional_part, in_implicit, not_empty, in_bound, from_zero};
+ghost use Rattle.yasna_notation.specs.Making.{context, in_sequence, in_sequence_of, part, in_implicit, not_empty};
 ghost use Rattle.yasna_notation.specs.Notation.{represented_by};
-ghost use Rattle.yasna_notation.specs.Parts.{no_parts};
+ghost use Rattle.yasna_notation_types.specs.OpenChoice.{any_lawful};
+ghost use Rattle.yasna_notation_types.specs.Others.{other_may, others_laws, others_within, possible};
 ghost use Rattle.yasna_notation.specs.contracts.strings.VecU8Notation.TheImpl.Laws.{lawful-law as octets};
-ghost use Rattle.yasna_notation.specs.contracts.simple.EnumeratedNotation.TheImpl.Laws.{lawful-law as enumerated};
-ghost use Rattle.yasna_notation.specs.Canonical.{represented_written};
-ghost use Rattle.yasna_notation.specs.Writing.{sequence_written, sequence_of_written, under_context, part_written, optional_written};
-ghost use Rattle.yasna_notation.specs.Writing.{no_part_written, bound_written, non_empty_list_written};
-ghost use Rattle.yasna_notation.specs.contracts.canonical.EnumeratedCanonicalNotation.TheImpl.Laws.{written-law as enumerated_written};
-ghost use Rattle.yasna_notation.specs.contracts.canonical.VecU8CanonicalNotation.TheImpl.Laws.{written-law as octets_written};
+ghost use Rattle.yasna_notation.specs.Bounded.{from_zero};
+ghost use Rattle.yasna_notation_types.specs.Named.{named_lawful};
+ghost use Rattle.ldap.specs.ResultCodes.{code_number, code_writable};
 
+use crate::result_code::ResultCode;
+use yasna::models::TaggedDerValue;
 use yasna::tags::TAG_SEQUENCE;
 use yasna::{ASN1Result, BERMode, BERReader, DERWriter, PrependBuffer, Tag};
 use yasna_notation::{
-    Bounded, CanonicalNotation, Context, Enumerated, FromZero, Implicit, Message, NotEmpty,
-    Notation, Optional, Represents, Sequence, SequenceOf, read_as,
+    Bounded, Context, Implicit, Message, NotEmpty, Notation, Represents, Sequence, SequenceOf,
+    read_as,
 };
+use yasna_notation_types::{Named, Others, Possible};
 
 type Referral = Implicit<Context<3>, Bounded<SequenceOf<Vec<u8>>, NotEmpty>>;
 
 type Parts = (
-    Bounded<Enumerated, FromZero>,
-    (Vec<u8>, (Vec<u8>, (Optional<Referral>, ()))),
+    Named<ResultCode>,
+    (Vec<u8>, (Vec<u8>, Possible<Referral, Others<Referral>>)),
 );
 
-type Fields = (i64, (Vec<u8>, (Vec<u8>, (Option<Vec<Vec<u8>>>, ()))));
+type Fields = (
+    ResultCode,
+    (
+        Vec<u8>,
+        (Vec<u8>, (Option<Vec<Vec<u8>>>, Vec<TaggedDerValue>)),
+    ),
+);
 
 /// What became of an operation.
 #[derive(Drop)]
 pub struct LdapResult {
-    /// 0 for success; never negative.
-    pub result_code: i64,
+    pub result_code: ResultCode,
     /// The name of the last entry that was found, in UTF-8.
     pub matched_dn: Vec<u8>,
     /// What to show to people, in UTF-8.
     pub diagnostic_message: Vec<u8>,
     /// URIs of other servers, one or more.
     pub referral: Option<Vec<Vec<u8>>>,
+    /// The components at the end that this version doesn't know, as they came. Of a response to a request to bind they are those after its
+    /// credentials.
+    pub unknown: Vec<TaggedDerValue>,
 }
 
 impl Represents<Fields> for LdapResult {
-    ghost value_of = { λ v. (v.result_code, (v.matched_dn, (v.diagnostic_message, (v.referral, tt)))) };
+    ghost value_of = { λ v. (v.result_code, (v.matched_dn, (v.diagnostic_message, (v.referral, v.unknown)))) };
 
     fn from_value(
-        (result_code, (matched_dn, (diagnostic_message, (referral, ())))): Fields,
+        (result_code, (matched_dn, (diagnostic_message, (referral, unknown)))): Fields,
     ) -> LdapResult {
         LdapResult {
             result_code,
             matched_dn,
             diagnostic_message,
             referral,
+            unknown,
         }
     }
 }
@@ -91,7 +102,7 @@ impl Notation for LdapResult {
                 &value.result_code,
                 (
                     &value.matched_dn,
-                    (&value.diagnostic_message, (&value.referral, ())),
+                    (&value.diagnostic_message, (&value.referral, &value.unknown)),
                 ),
             ),
             writer,
@@ -104,7 +115,7 @@ impl Notation for LdapResult {
                 &value.result_code,
                 (
                     &value.matched_dn,
-                    (&value.diagnostic_message, (&value.referral, ())),
+                    (&value.diagnostic_message, (&value.referral, &value.unknown)),
                 ),
             ),
             under,
@@ -118,7 +129,7 @@ impl Notation for LdapResult {
                 &value.result_code,
                 (
                     &value.matched_dn,
-                    (&value.diagnostic_message, (&value.referral, ())),
+                    (&value.diagnostic_message, (&value.referral, &value.unknown)),
                 ),
             ),
             under,
@@ -127,18 +138,13 @@ impl Notation for LdapResult {
     }
 
     ghost lawful = { λ _. represented_lawful ⟦<LdapResult as Represents<Fields>>⟧.value_of
-        (in_sequence (part (in_bound from_zero (enumerated refl)).own (part (octets refl).own
-        (part (octets refl).own (optional_part refl (in_implicit 3 (omega arith) (not_empty (in_sequence_of (octets refl).own))).own no_parts))))) };
+        (in_sequence (part (named_lawful code_number from_zero code_writable).own (part (octets refl).own
+        (part (octets refl).own (possible (other_may (context 3 ∷ [])) refl (in_implicit 3 (omega arith) (not_empty (in_sequence_of (octets refl).own))).own
+        (others_laws (context 3 ∷ []) any_lawful.own) (others_within (context 3 ∷ []) any_lawful.own.coding)))))) };
 
     ghost non_empty = { λ u m v. element_non_empty _ _ _ _ };
 }
 
 impl Message for LdapResult {
     ghost is_unambiguous = { refl };
-}
-
-impl CanonicalNotation for LdapResult {
-    ghost written = { λ _. represented_written ⟦<LdapResult as Represents<Fields>>⟧.value_of (sequence_written (part_written (bound_written from_zero
-        (enumerated_written refl)).own (part_written (octets_written refl).own (part_written (octets_written refl).own (optional_written
-        (under_context 3 (omega arith) (non_empty_list_written (sequence_of_written (octets_written refl).own))).own no_part_written))))) };
 }

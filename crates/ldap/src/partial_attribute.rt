@@ -3,7 +3,8 @@
 //! ```text
 //! PartialAttribute ::= SEQUENCE {
 //!     type  AttributeDescription,
-//!     vals  SET OF value AttributeValue }
+//!     vals  SET OF value AttributeValue,
+//!     ... }
 //!
 //! AttributeDescription ::= LDAPString
 //! AttributeValue       ::= OCTET STRING
@@ -13,19 +14,19 @@ ghost use Rattle.std.specs.Prelude.{◌≡◌, refl};
 ghost use Rattle.yasna_notation.specs.Laws.{represented_lawful, element_non_empty};
 ghost use Rattle.yasna_notation.specs.Making.{in_sequence, in_set_of, part};
 ghost use Rattle.yasna_notation.specs.Notation.{represented_by};
-ghost use Rattle.yasna_notation.specs.Parts.{no_parts};
+ghost use Rattle.yasna_notation_types.specs.OpenChoice.{any_lawful};
+ghost use Rattle.yasna_notation_types.specs.Rest.{rest_laws};
 ghost use Rattle.yasna_notation.specs.contracts.strings.VecU8Notation.TheImpl.Laws.{lawful-law as octets};
-ghost use Rattle.yasna_notation.specs.Canonical.{represented_written};
-ghost use Rattle.yasna_notation.specs.Writing.{sequence_written, set_of_written, part_written, no_part_written};
-ghost use Rattle.yasna_notation.specs.contracts.canonical.VecU8CanonicalNotation.TheImpl.Laws.{written-law as octets_written};
 
+use yasna::models::TaggedDerValue;
 use yasna::tags::TAG_SEQUENCE;
 use yasna::{ASN1Result, BERMode, BERReader, DERWriter, PrependBuffer, Tag};
-use yasna_notation::{CanonicalNotation, Message, Notation, Represents, Sequence, SetOf, read_as};
+use yasna_notation::{Message, Notation, Represents, Sequence, SetOf, read_as};
+use yasna_notation_types::Rest;
 
-type Parts = (Vec<u8>, (SetOf<Vec<u8>>, ()));
+type Parts = (Vec<u8>, (SetOf<Vec<u8>>, Rest<TaggedDerValue>));
 
-type Fields = (Vec<u8>, (Vec<Vec<u8>>, ()));
+type Fields = (Vec<u8>, (Vec<Vec<u8>>, Vec<TaggedDerValue>));
 
 /// An attribute, with values or none.
 #[derive(Drop)]
@@ -34,15 +35,18 @@ pub struct PartialAttribute {
     pub attribute_type: Vec<u8>,
     /// Its values. They are in no order.
     pub vals: Vec<Vec<u8>>,
+    /// The components at the end that this version doesn't know, as they came.
+    pub unknown: Vec<TaggedDerValue>,
 }
 
 impl Represents<Fields> for PartialAttribute {
-    ghost value_of = { λ v. (v.attribute_type, (v.vals, tt)) };
+    ghost value_of = { λ v. (v.attribute_type, (v.vals, v.unknown)) };
 
-    fn from_value((attribute_type, (vals, ())): Fields) -> PartialAttribute {
+    fn from_value((attribute_type, (vals, unknown)): Fields) -> PartialAttribute {
         PartialAttribute {
             attribute_type,
             vals,
+            unknown,
         }
     }
 }
@@ -63,7 +67,10 @@ impl Notation for PartialAttribute {
     }
 
     fn write(value: &PartialAttribute, writer: DERWriter<'_>) -> ASN1Result<()> {
-        Sequence::<Parts>::write_fields((&value.attribute_type, (&value.vals, ())), writer)
+        Sequence::<Parts>::write_fields(
+            (&value.attribute_type, (&value.vals, &value.unknown)),
+            writer,
+        )
     }
 
     fn prepend(
@@ -71,25 +78,28 @@ impl Notation for PartialAttribute {
         under: Option<Tag>,
         out: &mut PrependBuffer,
     ) -> ASN1Result<()> {
-        Sequence::<Parts>::prepend_fields((&value.attribute_type, (&value.vals, ())), under, out)
+        Sequence::<Parts>::prepend_fields(
+            (&value.attribute_type, (&value.vals, &value.unknown)),
+            under,
+            out,
+        )
     }
 
     fn encoded_len(value: &PartialAttribute, under: Option<Tag>, mode: BERMode) -> Option<usize> {
-        Sequence::<Parts>::fields_len((&value.attribute_type, (&value.vals, ())), under, mode)
+        Sequence::<Parts>::fields_len(
+            (&value.attribute_type, (&value.vals, &value.unknown)),
+            under,
+            mode,
+        )
     }
 
     ghost lawful = { λ _. represented_lawful ⟦<PartialAttribute as Represents<Fields>>⟧.value_of
         (in_sequence (part (octets refl).own (part (in_set_of (octets refl).own).own
-        no_parts))) };
+        (rest_laws any_lawful.own)))) };
 
     ghost non_empty = { λ u m v. element_non_empty _ _ _ _ };
 }
 
 impl Message for PartialAttribute {
     ghost is_unambiguous = { refl };
-}
-
-impl CanonicalNotation for PartialAttribute {
-    ghost written = { λ _. represented_written ⟦<PartialAttribute as Represents<Fields>>⟧.value_of (sequence_written (part_written (octets_written
-        refl).own (part_written (set_of_written (octets_written refl).own).own no_part_written))) };
 }

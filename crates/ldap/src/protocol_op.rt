@@ -9,14 +9,15 @@
 //!     searchResultEntry      SearchResultEntry,
 //!     searchResultDone       SearchResultDone,
 //!     searchResultReference  SearchResultReference,
-//!     .. }
+//!     ... }
 //! ```
 ghost use Rattle.std.specs.Prelude.{◌≡◌, [], refl};
-ghost use Rattle.yasna_notation.specs.Laws.{represented_lawful, element_non_empty};
-ghost use Rattle.yasna_notation.specs.Making.{in_choice, alternative};
+ghost use Rattle.yasna_notation.specs.Laws.{represented_lawful, element_non_empty, raw_non_empty};
+ghost use Rattle.yasna_notation.specs.Making.{alternative};
 ghost use Rattle.yasna_notation.specs.Notation.{represented_by};
 ghost use Rattle.yasna_notation.specs.declared.choices.Either.TheVariants.{First, Second};
-ghost use Rattle.ldap.specs.declared.protocol_op.ProtocolOp.TheVariants.{BindRequest, BindResponse, UnbindRequest, SearchRequest, SearchResultEntry, SearchResultDone, SearchResultReference};
+ghost use Rattle.ldap.specs.declared.protocol_op.ProtocolOp.TheVariants.{BindRequest, BindResponse, UnbindRequest, SearchRequest, SearchResultEntry, SearchResultDone, SearchResultReference, Unknown};
+ghost use Rattle.yasna_notation_types.specs.OpenChoice.{open_lawful};
 ghost use Rattle.ldap.specs.contracts.bind_request.BindRequestNotation.TheImpl.Laws.{lawful-law as bind_request_lawful};
 ghost use Rattle.ldap.specs.contracts.bind_response.BindResponseNotation.TheImpl.Laws.{lawful-law as bind_response_lawful};
 ghost use Rattle.ldap.specs.contracts.unbind_request.UnbindRequestNotation.TheImpl.Laws.{lawful-law as unbind_request_lawful};
@@ -24,15 +25,6 @@ ghost use Rattle.ldap.specs.contracts.search_request.SearchRequestNotation.TheIm
 ghost use Rattle.ldap.specs.contracts.search_result_entry.SearchResultEntryNotation.TheImpl.Laws.{lawful-law as search_result_entry_lawful};
 ghost use Rattle.ldap.specs.contracts.search_result_done.SearchResultDoneNotation.TheImpl.Laws.{lawful-law as search_result_done_lawful};
 ghost use Rattle.ldap.specs.contracts.search_result_reference.SearchResultReferenceNotation.TheImpl.Laws.{lawful-law as search_result_reference_lawful};
-ghost use Rattle.yasna_notation.specs.Canonical.{represented_written, choice_written_as};
-ghost use Rattle.yasna_notation.specs.Writing.{alternative_written};
-ghost use Rattle.ldap.specs.contracts.bind_request.BindRequestCanonicalNotation.TheImpl.Laws.{written-law as bind_request_written};
-ghost use Rattle.ldap.specs.contracts.bind_response.BindResponseCanonicalNotation.TheImpl.Laws.{written-law as bind_response_written};
-ghost use Rattle.ldap.specs.contracts.search_request.SearchRequestCanonicalNotation.TheImpl.Laws.{written-law as search_request_written};
-ghost use Rattle.ldap.specs.contracts.search_result_done.SearchResultDoneCanonicalNotation.TheImpl.Laws.{written-law as search_result_done_written};
-ghost use Rattle.ldap.specs.contracts.search_result_entry.SearchResultEntryCanonicalNotation.TheImpl.Laws.{written-law as search_result_entry_written};
-ghost use Rattle.ldap.specs.contracts.search_result_reference.SearchResultReferenceCanonicalNotation.TheImpl.Laws.{written-law as search_result_reference_written};
-ghost use Rattle.ldap.specs.contracts.unbind_request.UnbindRequestCanonicalNotation.TheImpl.Laws.{written-law as unbind_request_written};
 
 use crate::bind_request::BindRequest;
 use crate::bind_response::BindResponse;
@@ -41,11 +33,11 @@ use crate::search_result_done::SearchResultDone;
 use crate::search_result_entry::SearchResultEntry;
 use crate::search_result_reference::SearchResultReference;
 use crate::unbind_request::UnbindRequest;
+use yasna::models::TaggedDerValue;
 use yasna::{ASN1Result, BERMode, BERReader, DERWriter, PrependBuffer, Tag};
 use yasna_notation::Either::{First, Second};
-use yasna_notation::{
-    Alternatives, CanonicalNotation, Choice, Either, Message, Notation, Represents, read_as,
-};
+use yasna_notation::{Choice, Either, Message, Notation, Represents, read_as};
+use yasna_notation_types::OpenChoice;
 
 type Results = (
     SearchRequest,
@@ -57,16 +49,20 @@ type Results = (
 
 type Types = (BindRequest, (BindResponse, (UnbindRequest, Results)));
 
-type Notated = Choice<Types>;
+type Notated = OpenChoice<Types>;
 
 type LaterFields = Either<
     SearchRequest,
     Either<SearchResultEntry, Either<SearchResultDone, SearchResultReference>>,
 >;
 
-type Fields = Either<BindRequest, Either<BindResponse, Either<UnbindRequest, LaterFields>>>;
+type KnownFields = Either<BindRequest, Either<BindResponse, Either<UnbindRequest, LaterFields>>>;
+
+type Fields = Either<KnownFields, TaggedDerValue>;
 
 /// What is in a message: a request, or a part of the result to one.
+///
+/// Operations of the module that have no variant, as those that modify entries, are `Unknown`.
 #[derive(Drop)]
 pub enum ProtocolOp {
     BindRequest(BindRequest),
@@ -76,32 +72,35 @@ pub enum ProtocolOp {
     SearchResultEntry(SearchResultEntry),
     SearchResultDone(SearchResultDone),
     SearchResultReference(SearchResultReference),
+    /// An operation that this crate doesn't know, as it came.
+    Unknown(TaggedDerValue),
 }
 
 impl Represents<Fields> for ProtocolOp {
     ghost value_of = { λ v. elim v [
-      | BindRequest o ↦ First o
-      | BindResponse o ↦ Second (First o)
-      | UnbindRequest o ↦ Second (Second (First o))
-      | SearchRequest o ↦ Second (Second (Second (First o)))
-      | SearchResultEntry o ↦ Second (Second (Second (Second (First o))))
-      | SearchResultDone o ↦ Second (Second (Second (Second (Second (First o)))))
-      | SearchResultReference o ↦ Second (Second (Second (Second (Second (Second o)))))
+      | BindRequest o ↦ First (First o)
+      | BindResponse o ↦ First (Second (First o))
+      | UnbindRequest o ↦ First (Second (Second (First o)))
+      | SearchRequest o ↦ First (Second (Second (Second (First o))))
+      | SearchResultEntry o ↦ First (Second (Second (Second (Second (First o)))))
+      | SearchResultDone o ↦ First (Second (Second (Second (Second (Second (First o))))))
+      | SearchResultReference o ↦ First (Second (Second (Second (Second (Second (Second o))))))
+      | Unknown o ↦ Second o
     ] };
 
     fn from_value(value: Fields) -> ProtocolOp {
         match value {
-            First(operation) => ProtocolOp::BindRequest(operation),
-            Second(First(operation)) => ProtocolOp::BindResponse(operation),
-            Second(Second(First(operation))) => ProtocolOp::UnbindRequest(operation),
-            Second(Second(Second(First(operation)))) => ProtocolOp::SearchRequest(operation),
-            Second(Second(Second(Second(First(operation))))) => ProtocolOp::SearchResultEntry(
-                operation,
-            ),
-            Second(Second(Second(Second(Second(First(operation)))))) =>
+            First(First(operation)) => ProtocolOp::BindRequest(operation),
+            First(Second(First(operation))) => ProtocolOp::BindResponse(operation),
+            First(Second(Second(First(operation)))) => ProtocolOp::UnbindRequest(operation),
+            First(Second(Second(Second(First(operation))))) => ProtocolOp::SearchRequest(operation),
+            First(Second(Second(Second(Second(First(operation)))))) =>
+                ProtocolOp::SearchResultEntry(operation),
+            First(Second(Second(Second(Second(Second(First(operation))))))) =>
                 ProtocolOp::SearchResultDone(operation),
-            Second(Second(Second(Second(Second(Second(operation)))))) =>
+            First(Second(Second(Second(Second(Second(Second(operation))))))) =>
                 ProtocolOp::SearchResultReference(operation),
+            Second(operation) => ProtocolOp::Unknown(operation),
         }
     }
 }
@@ -113,8 +112,8 @@ impl Notation for ProtocolOp {
 
     ghost means = { represented_by ⟦<ProtocolOp as Represents<Fields>>⟧.value_of ⟦<Notated as Notation>⟧.means };
 
-    fn has_tag(tag: Tag) -> bool {
-        <Types as Alternatives>::has_tag(tag)
+    fn has_tag(_tag: Tag) -> bool {
+        false
     }
 
     fn read(reader: BERReader) -> ASN1Result<ProtocolOp> {
@@ -132,6 +131,7 @@ impl Notation for ProtocolOp {
             ProtocolOp::SearchResultReference(operation) => SearchResultReference::write(
                 operation, writer,
             ),
+            ProtocolOp::Unknown(operation) => TaggedDerValue::write(operation, writer),
         }
     }
 
@@ -150,6 +150,7 @@ impl Notation for ProtocolOp {
             ProtocolOp::SearchResultReference(operation) => SearchResultReference::prepend(
                 operation, under, out,
             ),
+            ProtocolOp::Unknown(operation) => TaggedDerValue::prepend(operation, under, out),
         }
     }
 
@@ -174,11 +175,12 @@ impl Notation for ProtocolOp {
             ProtocolOp::SearchResultReference(operation) => SearchResultReference::encoded_len(
                 operation, under, mode,
             ),
+            ProtocolOp::Unknown(operation) => TaggedDerValue::encoded_len(operation, under, mode),
         }
     }
 
     ghost lawful = { λ _. represented_lawful ⟦<ProtocolOp as Represents<Fields>>⟧.value_of
-        (in_choice ⟦<Notated as Notation>⟧.means.encoding_under (alternative (bind_request_lawful
+        (open_lawful ⟦<Choice<Types> as Notation>⟧.means.encoding_under (alternative (bind_request_lawful
         refl).own refl (alternative (bind_response_lawful refl).own refl (alternative (unbind_request_lawful refl).own refl (alternative (search_request_lawful
         refl).own refl (alternative (search_result_entry_lawful refl).own refl (alternative (search_result_done_lawful refl).own refl
         (search_result_reference_lawful refl).own))))))) };
@@ -192,16 +194,10 @@ impl Notation for ProtocolOp {
       | SearchResultEntry o ↦ element_non_empty _ _ _ _
       | SearchResultDone o ↦ element_non_empty _ _ _ _
       | SearchResultReference o ↦ element_non_empty _ _ _ _
+      | Unknown o ↦ raw_non_empty _ m _
     ] };
 }
 
 impl Message for ProtocolOp {
     ghost is_unambiguous = { refl };
-}
-
-impl CanonicalNotation for ProtocolOp {
-    ghost written = { λ _. represented_written ⟦<ProtocolOp as Represents<Fields>>⟧.value_of (choice_written_as ⟦<Notated as Notation>⟧.means.encoding_under
-        (alternative_written (bind_request_written refl).own (alternative_written (bind_response_written refl).own (alternative_written
-        (unbind_request_written refl).own (alternative_written (search_request_written refl).own (alternative_written (search_result_entry_written
-        refl).own (alternative_written (search_result_done_written refl).own (search_result_reference_written refl).own))))))) };
 }

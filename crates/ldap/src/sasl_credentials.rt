@@ -3,29 +3,29 @@
 //! ```text
 //! SaslCredentials ::= SEQUENCE {
 //!     mechanism    LDAPString,
-//!     credentials  OCTET STRING OPTIONAL }
+//!     credentials  OCTET STRING OPTIONAL,
+//!     ... }
 //!
 //! LDAPString ::= OCTET STRING
 //! ```
-ghost use Rattle.std.specs.Prelude.{◌≡◌, refl};
+ghost use Rattle.std.specs.Prelude.{◌≡◌, ◌∷◌, [], refl};
 ghost use Rattle.yasna_notation.specs.Laws.{represented_lawful, element_non_empty};
-ghost use Rattle.yasna_notation.specs.Making.{in_sequence, part, optional_part};
+ghost use Rattle.yasna_notation.specs.Making.{in_sequence, part};
 ghost use Rattle.yasna_notation.specs.Notation.{represented_by};
-ghost use Rattle.yasna_notation.specs.Parts.{no_parts};
+ghost use Rattle.yasna_notation_types.specs.OpenChoice.{any_lawful};
+ghost use Rattle.yasna_notation_types.specs.Others.{other_may, others_laws, others_within, possible};
+ghost use Rattle.yasna_base.specs.Octets.{octets_tag};
 ghost use Rattle.yasna_notation.specs.contracts.strings.VecU8Notation.TheImpl.Laws.{lawful-law as octets};
-ghost use Rattle.yasna_notation.specs.Canonical.{represented_written};
-ghost use Rattle.yasna_notation.specs.Writing.{sequence_written, part_written, optional_written, no_part_written};
-ghost use Rattle.yasna_notation.specs.contracts.canonical.VecU8CanonicalNotation.TheImpl.Laws.{written-law as octets_written};
 
+use yasna::models::TaggedDerValue;
 use yasna::tags::TAG_SEQUENCE;
 use yasna::{ASN1Result, BERMode, BERReader, DERWriter, PrependBuffer, Tag};
-use yasna_notation::{
-    CanonicalNotation, Message, Notation, Optional, Represents, Sequence, read_as,
-};
+use yasna_notation::{Message, Notation, Represents, Sequence, read_as};
+use yasna_notation_types::{Others, Possible};
 
-type Parts = (Vec<u8>, (Optional<Vec<u8>>, ()));
+type Parts = (Vec<u8>, Possible<Vec<u8>, Others<Vec<u8>>>);
 
-type Fields = (Vec<u8>, (Option<Vec<u8>>, ()));
+type Fields = (Vec<u8>, (Option<Vec<u8>>, Vec<TaggedDerValue>));
 
 /// The client's credentials for a mechanism.
 #[derive(Drop)]
@@ -33,15 +33,18 @@ pub struct SaslCredentials {
     /// The name of the mechanism.
     pub mechanism: Vec<u8>,
     pub credentials: Option<Vec<u8>>,
+    /// The components at the end that this version doesn't know, as they came.
+    pub unknown: Vec<TaggedDerValue>,
 }
 
 impl Represents<Fields> for SaslCredentials {
-    ghost value_of = { λ v. (v.mechanism, (v.credentials, tt)) };
+    ghost value_of = { λ v. (v.mechanism, (v.credentials, v.unknown)) };
 
-    fn from_value((mechanism, (credentials, ())): Fields) -> SaslCredentials {
+    fn from_value((mechanism, (credentials, unknown)): Fields) -> SaslCredentials {
         SaslCredentials {
             mechanism,
             credentials,
+            unknown,
         }
     }
 }
@@ -62,7 +65,10 @@ impl Notation for SaslCredentials {
     }
 
     fn write(value: &SaslCredentials, writer: DERWriter<'_>) -> ASN1Result<()> {
-        Sequence::<Parts>::write_fields((&value.mechanism, (&value.credentials, ())), writer)
+        Sequence::<Parts>::write_fields(
+            (&value.mechanism, (&value.credentials, &value.unknown)),
+            writer,
+        )
     }
 
     fn prepend(
@@ -70,25 +76,28 @@ impl Notation for SaslCredentials {
         under: Option<Tag>,
         out: &mut PrependBuffer,
     ) -> ASN1Result<()> {
-        Sequence::<Parts>::prepend_fields((&value.mechanism, (&value.credentials, ())), under, out)
+        Sequence::<Parts>::prepend_fields(
+            (&value.mechanism, (&value.credentials, &value.unknown)),
+            under,
+            out,
+        )
     }
 
     fn encoded_len(value: &SaslCredentials, under: Option<Tag>, mode: BERMode) -> Option<usize> {
-        Sequence::<Parts>::fields_len((&value.mechanism, (&value.credentials, ())), under, mode)
+        Sequence::<Parts>::fields_len(
+            (&value.mechanism, (&value.credentials, &value.unknown)),
+            under,
+            mode,
+        )
     }
 
     ghost lawful = { λ _. represented_lawful ⟦<SaslCredentials as Represents<Fields>>⟧.value_of
-        (in_sequence (part (octets refl).own (optional_part refl (octets refl).own
-        no_parts))) };
+        (in_sequence (part (octets refl).own (possible (other_may (octets_tag ∷ [])) refl (octets refl).own
+        (others_laws (octets_tag ∷ []) any_lawful.own) (others_within (octets_tag ∷ []) any_lawful.own.coding)))) };
 
     ghost non_empty = { λ u m v. element_non_empty _ _ _ _ };
 }
 
 impl Message for SaslCredentials {
     ghost is_unambiguous = { refl };
-}
-
-impl CanonicalNotation for SaslCredentials {
-    ghost written = { λ _. represented_written ⟦<SaslCredentials as Represents<Fields>>⟧.value_of (sequence_written (part_written (octets_written
-        refl).own (optional_written (octets_written refl).own no_part_written))) };
 }

@@ -3,14 +3,14 @@
 //! ```text
 //! SearchRequest ::= [APPLICATION 3] SEQUENCE {
 //!     baseObject    LDAPDN,
-//!     scope         ENUMERATED { baseObject(0), singleLevel(1), wholeSubtree(2), ... },
-//!     derefAliases  ENUMERATED {
-//!         neverDerefAliases(0), derefInSearching(1), derefFindingBaseObj(2), derefAlways(3) },
+//!     scope         ENUMERATED { .. },
+//!     derefAliases  ENUMERATED { .. },
 //!     sizeLimit     INTEGER (0 .. maxInt),
 //!     timeLimit     INTEGER (0 .. maxInt),
 //!     typesOnly     BOOLEAN,
 //!     filter        Filter,
-//!     attributes    AttributeSelection }
+//!     attributes    AttributeSelection,
+//!     ... }
 //!
 //! AttributeSelection ::= SEQUENCE OF selector LDAPString
 //! LDAPDN             ::= LDAPString
@@ -18,51 +18,45 @@
 //!
 //! maxInt INTEGER ::= 2147483647
 //! ```
-ghost use Rattle.std.specs.Prelude.{◌≡◌, pos, refl};
+ghost use Rattle.std.specs.Prelude.{◌≡◌, refl};
 ghost use Rattle.std.proofs.Common.{arith};
 ghost use Rattle.yasna_notation.specs.Laws.{represented_lawful, element_non_empty};
-ghost use Rattle.yasna_notation.specs.Making.{in_application, in_sequence, in_sequence_of, part, at_most, in_bound, from_zero, up_to};
+ghost use Rattle.yasna_notation.specs.Making.{in_application, in_sequence, in_sequence_of, part, at_most};
 ghost use Rattle.yasna_notation.specs.Notation.{represented_by};
-ghost use Rattle.yasna_notation.specs.Parts.{no_parts};
+ghost use Rattle.yasna_notation_types.specs.OpenChoice.{any_lawful};
+ghost use Rattle.yasna_notation_types.specs.Rest.{rest_laws};
 ghost use Rattle.yasna_notation.specs.contracts.strings.VecU8Notation.TheImpl.Laws.{lawful-law as octets};
-ghost use Rattle.yasna_notation.specs.contracts.simple.EnumeratedNotation.TheImpl.Laws.{lawful-law as enumerated};
+ghost use Rattle.yasna_notation.specs.Bounded.{from_zero};
+ghost use Rattle.yasna_notation_types.specs.Named.{named_lawful};
+ghost use Rattle.ldap.specs.Scopes.{scope_number, scope_writable};
+ghost use Rattle.ldap.specs.Aliases.{aliases_number, aliases_writable};
 ghost use Rattle.yasna_notation.specs.contracts.simple.U64Notation.TheImpl.Laws.{lawful-law as number};
 ghost use Rattle.yasna_notation.specs.contracts.simple.BoolNotation.TheImpl.Laws.{lawful-law as flag};
 ghost use Rattle.ldap.specs.contracts.filter_notation.FilterNotation.TheImpl.Laws.{lawful-law as filter};
-ghost use Rattle.yasna_notation.specs.Canonical.{represented_written};
-ghost use Rattle.yasna_notation.specs.Writing.{sequence_written, sequence_of_written, under_application, part_written, no_part_written};
-ghost use Rattle.yasna_notation.specs.Writing.{at_most_written, bound_written};
-ghost use Rattle.ldap.specs.contracts.filter_notation.FilterCanonicalNotation.TheImpl.Laws.{written-law as filter_written};
-ghost use Rattle.yasna_notation.specs.contracts.canonical.BoolCanonicalNotation.TheImpl.Laws.{written-law as flag_written};
-ghost use Rattle.yasna_notation.specs.contracts.canonical.EnumeratedCanonicalNotation.TheImpl.Laws.{written-law as enumerated_written};
-ghost use Rattle.yasna_notation.specs.contracts.canonical.U64CanonicalNotation.TheImpl.Laws.{written-law as number_written};
-ghost use Rattle.yasna_notation.specs.contracts.canonical.VecU8CanonicalNotation.TheImpl.Laws.{written-law as octets_written};
 
+use crate::deref_aliases::DerefAliases;
 use crate::filter::Filter;
+use crate::scope::Scope;
 use crate::tagged::{prepend_tagged_fields, tagged_fields_len, write_tagged_fields};
+use yasna::models::TaggedDerValue;
 use yasna::{ASN1Result, BERMode, BERReader, DERWriter, PrependBuffer, Tag};
 use yasna_notation::{
-    Application, AtMost, Bounded, CanonicalNotation, Enumerated, FromZero, Implicit, Message,
-    Notation, Represents, Sequence, SequenceOf, UpTo, read_as,
+    Application, AtMost, Bounded, Implicit, Message, Notation, Represents, Sequence, SequenceOf,
+    read_as,
 };
+use yasna_notation_types::{Named, Rest};
 
 type MaxInt = Bounded<u64, AtMost<2147483647>>;
 
-type Ends = (bool, (Filter, (SequenceOf<Vec<u8>>, ())));
+type Ends = (bool, (Filter, (SequenceOf<Vec<u8>>, Rest<TaggedDerValue>)));
 
 type Limits = (MaxInt, (MaxInt, Ends));
 
-type Parts = (
-    Vec<u8>,
-    (
-        Bounded<Enumerated, FromZero>,
-        (Bounded<Enumerated, UpTo<3>>, Limits),
-    ),
-);
+type Parts = (Vec<u8>, (Named<Scope>, (Named<DerefAliases>, Limits)));
 
-type EndFields = (bool, (Filter, (Vec<Vec<u8>>, ())));
+type EndFields = (bool, (Filter, (Vec<Vec<u8>>, Vec<TaggedDerValue>)));
 
-type Fields = (Vec<u8>, (i64, (i64, (u64, (u64, EndFields)))));
+type Fields = (Vec<u8>, (Scope, (DerefAliases, (u64, (u64, EndFields)))));
 
 type Notated = Implicit<Application<3>, Sequence<Parts>>;
 
@@ -71,11 +65,8 @@ type Notated = Implicit<Application<3>, Sequence<Parts>>;
 pub struct SearchRequest {
     /// The name of the entry where the search begins, in UTF-8.
     pub base_object: Vec<u8>,
-    /// 0 for only that entry, 1 for those directly below it, 2 for it and all below it. Extensions add further numbers, never negative, such
-    /// as 3 for all below it.
-    pub scope: i64,
-    /// The aliases that are followed: 0 for none, 1 below that entry, 2 at it, 3 for all.
-    pub deref_aliases: i64,
+    pub scope: Scope,
+    pub deref_aliases: DerefAliases,
     /// The most entries that are wanted, up to 2147483647; 0 for any number.
     pub size_limit: u64,
     /// The most seconds that the search may take, up to 2147483647; 0 for any.
@@ -85,15 +76,17 @@ pub struct SearchRequest {
     pub filter: Filter,
     /// The names of the attributes that are wanted.
     pub attributes: Vec<Vec<u8>>,
+    /// The components at the end that this version doesn't know, as they came.
+    pub unknown: Vec<TaggedDerValue>,
 }
 
 impl Represents<Fields> for SearchRequest {
-    ghost value_of = { λ v. (v.base_object, (v.scope, (v.deref_aliases, (v.size_limit, (v.time_limit, (v.types_only, (v.filter, (v.attributes, tt)))))))) };
+    ghost value_of = { λ v. (v.base_object, (v.scope, (v.deref_aliases, (v.size_limit, (v.time_limit, (v.types_only, (v.filter, (v.attributes, v.unknown)))))))) };
 
     fn from_value(
         (base_object, (scope, (deref_aliases, (size_limit, others)))): Fields,
     ) -> SearchRequest {
-        let (time_limit, (types_only, (filter, (attributes, ())))) = others;
+        let (time_limit, (types_only, (filter, (attributes, unknown)))) = others;
         SearchRequest {
             base_object,
             scope,
@@ -103,6 +96,7 @@ impl Represents<Fields> for SearchRequest {
             types_only,
             filter,
             attributes,
+            unknown,
         }
     }
 }
@@ -134,7 +128,10 @@ impl Notation for SearchRequest {
                             &value.size_limit,
                             (
                                 &value.time_limit,
-                                (&value.types_only, (&value.filter, (&value.attributes, ()))),
+                                (
+                                    &value.types_only,
+                                    (&value.filter, (&value.attributes, &value.unknown)),
+                                ),
                             ),
                         ),
                     ),
@@ -162,7 +159,7 @@ impl Notation for SearchRequest {
                                 &request.time_limit,
                                 (
                                     &request.types_only,
-                                    (&request.filter, (&request.attributes, ())),
+                                    (&request.filter, (&request.attributes, &request.unknown)),
                                 ),
                             ),
                         ),
@@ -188,7 +185,7 @@ impl Notation for SearchRequest {
                                 &request.time_limit,
                                 (
                                     &request.types_only,
-                                    (&request.filter, (&request.attributes, ())),
+                                    (&request.filter, (&request.attributes, &request.unknown)),
                                 ),
                             ),
                         ),
@@ -201,21 +198,13 @@ impl Notation for SearchRequest {
     }
 
     ghost lawful = { λ _. represented_lawful ⟦<SearchRequest as Represents<Fields>>⟧.value_of
-        (in_application 3 (omega arith) (in_sequence (part (octets refl).own (part (in_bound
-        from_zero (enumerated refl)).own (part (in_bound (up_to (pos 3)) (enumerated refl)).own (part (at_most 2147483647 (number refl)).own (part
-        (at_most 2147483647 (number refl)).own (part (flag refl).own (part (filter refl).own (part (in_sequence_of (octets refl).own).own no_parts)))))))))) };
+        (in_application 3 (omega arith) (in_sequence (part (octets refl).own (part (named_lawful scope_number from_zero scope_writable).own
+        (part (named_lawful aliases_number from_zero aliases_writable).own (part (at_most 2147483647 (number refl)).own (part
+        (at_most 2147483647 (number refl)).own (part (flag refl).own (part (filter refl).own (part (in_sequence_of (octets refl).own).own (rest_laws any_lawful.own))))))))))) };
 
     ghost non_empty = { λ u m v. element_non_empty _ _ _ _ };
 }
 
 impl Message for SearchRequest {
     ghost is_unambiguous = { refl };
-}
-
-impl CanonicalNotation for SearchRequest {
-    ghost written = { λ _. represented_written ⟦<SearchRequest as Represents<Fields>>⟧.value_of (under_application 3 (omega arith) (sequence_written
-        (part_written (octets_written refl).own (part_written (bound_written from_zero (enumerated_written refl)).own (part_written
-        (bound_written (up_to (pos 3)) (enumerated_written refl)).own (part_written (at_most_written 2147483647 (number_written refl)).own
-        (part_written (at_most_written 2147483647 (number_written refl)).own (part_written (flag_written refl).own (part_written (filter_written
-        refl).own (part_written (sequence_of_written (octets_written refl).own).own no_part_written)))))))))) };
 }

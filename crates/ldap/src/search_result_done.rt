@@ -9,15 +9,10 @@ ghost use Rattle.yasna_notation.specs.Laws.{represented_lawful, element_non_empt
 ghost use Rattle.yasna_notation.specs.Making.{in_application};
 ghost use Rattle.yasna_notation.specs.Notation.{represented_by};
 ghost use Rattle.ldap.specs.contracts.ldap_result.LdapResultNotation.TheImpl.Laws.{lawful-law as result};
-ghost use Rattle.yasna_notation.specs.Canonical.{represented_written};
-ghost use Rattle.yasna_notation.specs.Writing.{under_application};
-ghost use Rattle.ldap.specs.contracts.ldap_result.LdapResultCanonicalNotation.TheImpl.Laws.{written-law as result_written};
 
 use crate::ldap_result::LdapResult;
 use yasna::{ASN1Result, BERMode, BERReader, DERWriter, PrependBuffer, Tag};
-use yasna_notation::{
-    Application, CanonicalNotation, Implicit, Message, Notation, Represents, read_as,
-};
+use yasna_notation::{Application, Implicit, Message, Notation, Represents, read_as};
 
 type Notated = Implicit<Application<5>, LdapResult>;
 
@@ -74,9 +69,4 @@ impl Notation for SearchResultDone {
 
 impl Message for SearchResultDone {
     ghost is_unambiguous = { refl };
-}
-
-impl CanonicalNotation for SearchResultDone {
-    ghost written = { λ _. represented_written ⟦<SearchResultDone as Represents<LdapResult>>⟧.value_of (under_application 5 (omega arith) (result_written
-        refl)) };
 }

@@ -7,6 +7,7 @@
 //! - What the octets of a private key hold isn't read. A value under ANY, as a parameter of an algorithm or an attribute's value, is only
 //!   framed: its identifier and length are read, and in DER those of the elements in it.
 //! - A `OneAsymmetricKey` may have a public key in v1, and none in v2. Attributes may be of any type, and of one type twice.
+//! - The numbers of versions that a later module may add are rejected. Elements that it may add to a `OneAsymmetricKey` are read.
 //! - An arc of 2^64 or more in any object identifier rejects the whole.
 //!
 //! | Module | Holds |

@@ -6,7 +6,9 @@
 //!     privateKeyAlgorithm  PrivateKeyAlgorithmIdentifier,
 //!     privateKey           PrivateKey,
 //!     attributes           [0] IMPLICIT Attributes OPTIONAL,
-//!     publicKey            [1] IMPLICIT PublicKey OPTIONAL }
+//!     ...,
+//!     [[2: publicKey       [1] IMPLICIT PublicKey OPTIONAL ]],
+//!     ... }
 //!
 //! Version ::= INTEGER { v1(0), v2(1) } (v1, .., v2)
 //!
@@ -19,13 +21,16 @@
 //! Attributes ::= SET OF Attribute
 //! ```
 //!
-//! The notation doesn't require v2 with a public key, and v1 without one.
-ghost use Rattle.std.specs.Prelude.{◌≡◌, refl};
+//! The notation doesn't require v2 with a public key, and v1 without one. Elements after the public key, or in place of it, that this
+//! version doesn't know are read as they came, and are written again.
+ghost use Rattle.std.specs.Prelude.{◌≡◌, ◌∷◌, [], refl};
 ghost use Rattle.std.proofs.Common.{arith};
 ghost use Rattle.yasna_notation.specs.Laws.{represented_lawful, element_non_empty};
-ghost use Rattle.yasna_notation.specs.Making.{in_sequence, in_set_of, part, optional_part, in_implicit, at_most};
+ghost use Rattle.yasna_notation.specs.Making.{context, in_sequence, in_set_of, part, in_implicit, at_most};
 ghost use Rattle.yasna_notation.specs.Notation.{represented_by};
-ghost use Rattle.yasna_notation.specs.Parts.{no_parts};
+ghost use Rattle.yasna_notation_types.specs.OpenChoice.{any_lawful};
+ghost use Rattle.yasna_notation_types.specs.Others.{other_may, others_laws, others_within, possible, possible_may, possible_within};
+ghost use Rattle.pkcs8.specs.Known.{known};
 ghost use Rattle.yasna_notation.specs.contracts.simple.U64Notation.TheImpl.Laws.{lawful-law as number};
 ghost use Rattle.yasna_notation.specs.contracts.strings.VecU8Notation.TheImpl.Laws.{lawful-law as octets};
 ghost use Rattle.yasna_notation.specs.contracts.strings.BitStringNotation.TheImpl.Laws.{lawful-law as bits};
@@ -33,24 +38,31 @@ ghost use Rattle.x509.specs.contracts.algorithm.AlgorithmIdentifierNotation.TheI
 ghost use Rattle.x509.specs.contracts.attribute.AttributeNotation.TheImpl.Laws.{lawful-law as attribute};
 
 use x509::{AlgorithmIdentifier, Attribute};
+use yasna::models::TaggedDerValue;
 use yasna::tags::TAG_SEQUENCE;
 use yasna::{ASN1Result, BERMode, BERReader, DERWriter, PrependBuffer, Tag};
 use yasna_notation::{
-    AtMost, BitString, Bounded, Context, Implicit, Message, Notation, Optional, Represents,
-    Sequence, SetOf, read_as,
+    AtMost, BitString, Bounded, Choice, Context, Implicit, Message, Notation, Represents, Sequence,
+    SetOf, read_as,
 };
+use yasna_notation_types::{Others, Possible};
 
 type Version = Bounded<u64, AtMost<1>>;
 
-type Attributes = Optional<Implicit<Context<0>, SetOf<Attribute>>>;
+type Attributes = Implicit<Context<0>, SetOf<Attribute>>;
 
-type PublicKey = Optional<Implicit<Context<1>, BitString>>;
+type PublicKey = Implicit<Context<1>, BitString>;
 
-type Ends = (Attributes, (PublicKey, ()));
+type Unknown = Others<Choice<(Attributes, (PublicKey,))>>;
+
+type Ends = Possible<Attributes, Possible<PublicKey, Unknown>>;
 
 type Parts = (Version, (AlgorithmIdentifier, (Vec<u8>, Ends)));
 
-type EndFields = (Option<Vec<Attribute>>, (Option<(Vec<u8>, usize)>, ()));
+type EndFields = (
+    Option<Vec<Attribute>>,
+    (Option<(Vec<u8>, usize)>, Vec<TaggedDerValue>),
+);
 
 type Fields = (u64, (AlgorithmIdentifier, (Vec<u8>, EndFields)));
 
@@ -66,21 +78,24 @@ pub struct OneAsymmetricKey {
     pub attributes: Option<Vec<Attribute>>,
     /// The bits of the public key, as octets and a count.
     pub public_key: Option<(Vec<u8>, usize)>,
+    /// The elements at the end that this version doesn't know, as they came.
+    pub unknown: Vec<TaggedDerValue>,
 }
 
 impl Represents<Fields> for OneAsymmetricKey {
-    ghost value_of = { λ v. (v.version, (v.private_key_algorithm, (v.private_key, (v.attributes, (v.public_key, tt))))) };
+    ghost value_of = { λ v. (v.version, (v.private_key_algorithm, (v.private_key, (v.attributes, (v.public_key, v.unknown))))) };
 
     fn from_value(
         (version, (private_key_algorithm, (private_key, others))): Fields,
     ) -> OneAsymmetricKey {
-        let (attributes, (public_key, ())) = others;
+        let (attributes, (public_key, unknown)) = others;
         OneAsymmetricKey {
             version,
             private_key_algorithm,
             private_key,
             attributes,
             public_key,
+            unknown,
         }
     }
 }
@@ -108,7 +123,7 @@ impl Notation for OneAsymmetricKey {
                     &value.private_key_algorithm,
                     (
                         &value.private_key,
-                        (&value.attributes, (&value.public_key, ())),
+                        (&value.attributes, (&value.public_key, &value.unknown)),
                     ),
                 ),
             ),
@@ -126,7 +141,10 @@ impl Notation for OneAsymmetricKey {
                 &key.version,
                 (
                     &key.private_key_algorithm,
-                    (&key.private_key, (&key.attributes, (&key.public_key, ()))),
+                    (
+                        &key.private_key,
+                        (&key.attributes, (&key.public_key, &key.unknown)),
+                    ),
                 ),
             ),
             under,
@@ -140,7 +158,10 @@ impl Notation for OneAsymmetricKey {
                 &key.version,
                 (
                     &key.private_key_algorithm,
-                    (&key.private_key, (&key.attributes, (&key.public_key, ()))),
+                    (
+                        &key.private_key,
+                        (&key.attributes, (&key.public_key, &key.unknown)),
+                    ),
                 ),
             ),
             under,
@@ -150,8 +171,10 @@ impl Notation for OneAsymmetricKey {
 
     ghost lawful = { λ _. represented_lawful ⟦<OneAsymmetricKey as Represents<Fields>>⟧.value_of
         (in_sequence (part (at_most 1 (number refl)).own (part (algorithm refl).own (part (octets refl).own
-        (optional_part refl (in_implicit 0 (omega arith) (in_set_of (attribute refl).own)).own
-        (optional_part refl (in_implicit 1 (omega arith) (bits refl)).own no_parts)))))) };
+        (possible (possible_may (context 1 ∷ []) (other_may known)) refl (in_implicit 0 (omega arith) (in_set_of (attribute refl).own)).own
+        (possible (other_may known) refl (in_implicit 1 (omega arith) (bits refl)).own (others_laws known any_lawful.own)
+        (others_within known any_lawful.own.coding))
+        (possible_within (other_may known) (in_implicit 1 (omega arith) (bits refl)).own (others_within known any_lawful.own.coding))))))) };
 
     ghost non_empty = { λ u m v. element_non_empty _ _ _ _ };
 }

@@ -197,7 +197,7 @@ impl Looks for Encoded<Certificate> {
         match fields {
             Fields::All => certificate.version == 2 && is_of_authority(&certificate.serial_number),
             Fields::FirstVersion => certificate.version == 0,
-            Fields::IssuerId => has_issuer_id(&certificate.issuer_unique_id),
+            _ => has_issuer_id(&certificate.issuer_unique_id),
         }
     }
 }

@@ -38,6 +38,10 @@ pub enum Fields {
     FirstVersion,
     /// The issuer's number.
     IssuerId,
+    /// The numbers that a module names.
+    Numbers,
+    /// What the module doesn't know.
+    Unknown,
 }
 
 /// A type whose fields a row speaks of.

@@ -21,6 +21,22 @@ const WITH_PUBLIC_KEY: &str =
     301d060a2a864886f70d01090914310f0c0d437572646c652043686169727381210019bf44096984cdfe8541bac167dc3b96\
     c85086aa30b6b6cb0c5c38ad703166e1";
 
+// WITH_PUBLIC_KEY, and an element [2] that the module doesn't name.
+const WITH_UNKNOWN: &str =
+    "3077020101300506032b657004220420d4ee72dbf913584ad5b6d8f1f769f8ad3afe7c28cbf1d4fbe097a88f44755842a01f\
+    301d060a2a864886f70d01090914310f0c0d437572646c652043686169727381210019bf44096984cdfe8541bac167dc3b96\
+    c85086aa30b6b6cb0c5c38ad703166e1a2030c0161";
+
+// ED25519, and an element [2].
+const ED25519_WITH_UNKNOWN: &str =
+    "3030020100300506032b6570042204209836907d8d3657a5d2de93c7dd419d0b2a93218640545f099ced376f6f107f13a200";
+
+// WITH_PUBLIC_KEY with another public key.
+const WITH_TWO_KEYS: &str =
+    "3076020101300506032b657004220420d4ee72dbf913584ad5b6d8f1f769f8ad3afe7c28cbf1d4fbe097a88f44755842a01f\
+    301d060a2a864886f70d01090914310f0c0d437572646c652043686169727381210019bf44096984cdfe8541bac167dc3b96\
+    c85086aa30b6b6cb0c5c38ad703166e181020055";
+
 // ED25519 with the number 2 in place of its version 0.
 const VERSION_3: &str =
     "302e020102300506032b6570042204209836907d8d3657a5d2de93c7dd419d0b2a93218640545f099ced376f6f107f13";
@@ -81,7 +97,7 @@ const WITH_PUBLIC_KEY_IN_CER: &str =
     8541bac167dc3b96c85086aa30b6b6cb0c5c38ad703166e10000";
 
 // A key with its public key is none of the older type; where contents were streamed, BER alone reads them.
-static ROWS: [Row; 25] = [
+static ROWS: [Row; 30] = [
     (
         Kind::PrivateKeyInfo,
         Claim::IsEncoding,
@@ -138,6 +154,36 @@ static ROWS: [Row; 25] = [
         Claim::IsInvalid,
         "VERSION_3",
         VERSION_3,
+    ),
+    (
+        Kind::OneAsymmetricKey,
+        Claim::IsEncoding,
+        "WITH_UNKNOWN",
+        WITH_UNKNOWN,
+    ),
+    (
+        Kind::OneAsymmetricKey,
+        Claim::Says(Ber, Fields::Unknown),
+        "that WITH_UNKNOWN has an unknown element",
+        WITH_UNKNOWN,
+    ),
+    (
+        Kind::OneAsymmetricKey,
+        Claim::IsEncoding,
+        "ED25519_WITH_UNKNOWN",
+        ED25519_WITH_UNKNOWN,
+    ),
+    (
+        Kind::PrivateKeyInfo,
+        Claim::IsNoEncoding,
+        "ED25519_WITH_UNKNOWN, of the older type",
+        ED25519_WITH_UNKNOWN,
+    ),
+    (
+        Kind::OneAsymmetricKey,
+        Claim::IsInvalid,
+        "WITH_TWO_KEYS",
+        WITH_TWO_KEYS,
     ),
     (
         Kind::SignedContent,
@@ -221,8 +267,15 @@ static ROWS: [Row; 25] = [
 ];
 
 impl Looks for Encoded<OneAsymmetricKey> {
-    // Whether it has a version and a public key of 32 octets.
-    fn has(&self, _fields: Fields) -> bool {
+    // Whether it has a version and a public key of 32 octets, and as many unknown elements as the row says.
+    fn has(&self, fields: Fields) -> bool {
+        let unknown = match fields {
+            Fields::Unknown => 1,
+            _ => 0,
+        };
+        if self.value.unknown.len() != unknown {
+            return false;
+        }
         match &self.value.public_key {
             Some((octets, bits)) => self.value.version == 1 && octets.len() == 32 && *bits == 256,
             None => false,

@@ -4,10 +4,11 @@ use crate::certificates::is_signed;
 use crate::checks::{Claim, becomes, bytes_of, holds, holds_or_says};
 use crate::keys::{is_content, is_raw};
 use crate::messages::{Part, is_part};
+use crate::named_bits::{is_key_usage, is_reason_flags};
 use crate::parts::is_in_a_sequence;
 use crate::texts::Texts;
 use cms::{ContentInfo, EnvelopedData, SignedData};
-use ldap::LdapMessage;
+use ldap::{Filter, LdapMessage};
 use pkcs8::{OneAsymmetricKey, PrivateKeyInfo};
 use snmp::{v1, v2c};
 use std::alloc::Global;
@@ -37,8 +38,11 @@ pub enum Kind {
     /// An element that is kept as it came.
     Raw,
     LdapMessage,
+    LdapFilter,
     SnmpV1,
     SnmpV2c,
+    KeyUsage,
+    ReasonFlags,
     /// A part of a message.
     Part(Part),
     /// Parts that are pairs.
@@ -69,17 +73,20 @@ fn is_so(alloc: Global, kind: Kind, bytes: &[u8], claim: Claim) -> bool {
         Kind::SignedContent => is_content::<Encoded<SignedData>>(alloc, bytes, claim),
         Kind::EnvelopedContent => is_content::<Encoded<EnvelopedData>>(alloc, bytes, claim),
         Kind::Raw => is_raw(alloc, bytes, claim),
-        Kind::LdapMessage => match claim {
-            Claim::Becomes(encoding) => becomes::<Encoded<LdapMessage>>(alloc, bytes, encoding),
-            _ => holds_or_says::<Encoded<LdapMessage>>(alloc, bytes, claim),
+        Kind::LdapMessage => holds_or_says::<Encoded<LdapMessage>>(alloc, bytes, claim),
+        Kind::LdapFilter => match claim {
+            Claim::Becomes(encoding) => becomes::<Encoded<Filter>>(alloc, bytes, encoding),
+            _ => holds::<Encoded<Filter>>(alloc, bytes, claim),
         },
-        Kind::SnmpV1 => holds::<Encoded<v1::SnmpMessage>>(alloc, bytes, claim),
+        Kind::SnmpV1 => holds_or_says::<Encoded<v1::SnmpMessage>>(alloc, bytes, claim),
         Kind::SnmpV2c => match claim {
             Claim::Becomes(encoding) => becomes::<Encoded<v2c::SnmpMessage>>(
                 alloc, bytes, encoding,
             ),
             _ => holds_or_says::<Encoded<v2c::SnmpMessage>>(alloc, bytes, claim),
         },
+        Kind::KeyUsage => is_key_usage(alloc, bytes, claim),
+        Kind::ReasonFlags => is_reason_flags(alloc, bytes, claim),
         Kind::Part(part) => is_part(alloc, part, bytes, claim),
         Kind::Pairs => is_in_a_sequence(alloc, bytes, claim),
         Kind::Texts => holds::<Encoded<Texts>>(alloc, bytes, claim),

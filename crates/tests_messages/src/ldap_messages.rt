@@ -1,12 +1,15 @@
-//! Messages of LDAP (RFC 4511), made by hand.
+//! Messages of LDAP (RFC 4511), made by hand where no program is named.
 
 use crate::checks::{Claim, Fields, Looks, finds_none};
 use crate::kinds::{Kind, Row, first_failing};
-use ldap::{Filter, FilterItem, LdapMessage, ProtocolOp};
+use ldap::{
+    Control, DerefAliases, Filter, FilterItem, LdapMessage, PartialAttribute, ProtocolOp,
+    ResultCode, Scope,
+};
 use yasna::BERMode::Ber;
 use yasna_notation::Encoded;
 
-static ROWS: [Row; 53] = [
+static ROWS: [Row; 77] = [
     // messages in DER
     (
         Kind::LdapMessage,
@@ -159,6 +162,151 @@ static ROWS: [Row; 53] = [
         "search request, scope 3, as `ldapsearch -s children -b dc=a` sends it",
         "30290201026324040464633d610a01030a0100020100020100010100870b6f626a656374636c6173733000",
     ),
+    (
+        Kind::LdapMessage,
+        Claim::IsEncoding,
+        "search request, derefAliases 4",
+        "30290201026324040464633d610a01020a0104020100020100010100870b6f626a656374436c6173733000",
+    ),
+    (
+        Kind::LdapMessage,
+        Claim::IsEncoding,
+        "search result done, code 123, which the module doesn't name",
+        "300c02010265070a017b04000400",
+    ),
+    // components and alternatives that the module doesn't name
+    (
+        Kind::LdapMessage,
+        Claim::IsEncoding,
+        "bind request, authentication [1]",
+        "300d02010160080201030400810161",
+    ),
+    (
+        Kind::LdapMessage,
+        Claim::IsEncoding,
+        "request for TLS, an ExtendedRequest, as `openssl s_client -starttls ldap` sends it",
+        "301d02010177188016312e332e362e312e342e312e313436362e3230303337",
+    ),
+    (
+        Kind::LdapMessage,
+        Claim::IsEncoding,
+        "response to it",
+        "300c02010178070a010004000400",
+    ),
+    (
+        Kind::LdapMessage,
+        Claim::IsEncoding,
+        "modify request",
+        "301d0201026618040464633d613010300e0a010230090402736e310304016d",
+    ),
+    (
+        Kind::LdapMessage,
+        Claim::IsEncoding,
+        "unbind request with an unknown component after it",
+        "30070201034200a100",
+    ),
+    (
+        Kind::LdapMessage,
+        Claim::IsEncoding,
+        "unknown component, and what would be controls before it",
+        "30090201034200a100a000",
+    ),
+    (
+        Kind::LdapMessage,
+        Claim::IsEncoding,
+        "search result done, unknown [5]",
+        "300f020102650a0a010004000400850178",
+    ),
+    (
+        Kind::LdapMessage,
+        Claim::IsEncoding,
+        "search result done, unknown NULL",
+        "300e02010265090a0100040004000500",
+    ),
+    (
+        Kind::LdapMessage,
+        Claim::IsEncoding,
+        "bind response, SASL credentials and unknown [8]",
+        "3014020101610f0a0100040004008703723d31880178",
+    ),
+    (
+        Kind::LdapMessage,
+        Claim::IsEncoding,
+        "bind response, unknown [8]",
+        "300f020101610a0a010004000400880178",
+    ),
+    (
+        Kind::LdapMessage,
+        Claim::IsEncoding,
+        "bind request, unknown [1] after the authentication",
+        "300f020101600a02010304008000810178",
+    ),
+    (
+        Kind::LdapMessage,
+        Claim::IsEncoding,
+        "bind request, unknown INTEGER after SASL credentials",
+        "301c02010160170201030400a3100405504c41494e040400750070020105",
+    ),
+    (
+        Kind::LdapMessage,
+        Claim::IsEncoding,
+        "search request, unknown [0]",
+        "302c0201026327040464633d610a01020a0100020100020100010100870b6f626a656374436c6173733000800178",
+    ),
+    (
+        Kind::LdapMessage,
+        Claim::IsEncoding,
+        "search result entry, unknown [1], and unknown [0] in an attribute",
+        "301e02010264190404636e3d61300e300c0402636e3103040161800179810178",
+    ),
+    (
+        Kind::LdapMessage,
+        Claim::IsEncoding,
+        "control, unknown [0]",
+        "302002010265070a010004000400a01230100405312e322e330101ff040176800178",
+    ),
+    (
+        Kind::LdapMessage,
+        Claim::Says(Ber, Fields::Unknown),
+        "operation of unknown tag, which is a length longer than its shortest",
+        "30090201026b81030a0100",
+    ),
+    (
+        Kind::LdapMessage,
+        Claim::Says(Ber, Fields::Unknown),
+        "that a component is unknown",
+        "30070201034200a100",
+    ),
+    (
+        Kind::LdapMessage,
+        Claim::Says(Ber, Fields::Numbers),
+        "that the scope is 3",
+        "30290201026324040464633d610a01030a0100020100020100010100870b6f626a656374636c6173733000",
+    ),
+    (
+        Kind::LdapMessage,
+        Claim::Says(Ber, Fields::Numbers),
+        "that there is noSuchObject",
+        "3014020102650f0a0120040464633d6104046e6f6e65",
+    ),
+    (
+        Kind::LdapMessage,
+        Claim::IsRejected(Ber),
+        "controls twice",
+        "30090201034200a000a000",
+    ),
+    (
+        Kind::LdapMessage,
+        Claim::IsRejected(Ber),
+        "referral twice",
+        "302602010265210a010004000400a30b04096c6461703a2f2f612fa30b04096c6461703a2f2f612f",
+    ),
+    (
+        Kind::LdapMessage,
+        Claim::IsRejected(Ber),
+        "control with two values",
+        "301d02010265070a010004000400a00f300d0405312e322e33040176040177",
+    ),
     // no messages in any encoding rules
     (
         Kind::LdapMessage,
@@ -211,12 +359,6 @@ static ROWS: [Row; 53] = [
     (
         Kind::LdapMessage,
         Claim::IsRejected(Ber),
-        "authentication [1]",
-        "300d02010160080201030400810161",
-    ),
-    (
-        Kind::LdapMessage,
-        Claim::IsRejected(Ber),
         "search request, (&), which is a filter of none",
         "301e0201026319040464633d610a01020a0100020100020100010100a0003000",
     ),
@@ -254,18 +396,6 @@ static ROWS: [Row; 53] = [
     (
         Kind::LdapMessage,
         Claim::IsRejected(Ber),
-        "unbind request with an unknown component after it",
-        "30070201034200a100",
-    ),
-    (
-        Kind::LdapMessage,
-        Claim::IsRejected(Ber),
-        "search request, derefAliases 4",
-        "30290201026324040464633d610a01020a0104020100020100010100870b6f626a656374436c6173733000",
-    ),
-    (
-        Kind::LdapMessage,
-        Claim::IsRejected(Ber),
         "search request, sizeLimit 2^31",
         "302d0201026328040464633d610a01020a010002050080000000020100010100870b6f626a656374436c6173\
          733000",
@@ -276,24 +406,74 @@ static ROWS: [Row; 53] = [
         "search request, filter [10]",
         "301f020102631a040464633d610a01020a01000201000201000101008a01783000",
     ),
-    // messages in BER, and their DER encodings, which come back
+    // messages in BER that are no DER encodings
     (
         Kind::LdapMessage,
-        Claim::Becomes("30050201034200"),
+        Claim::Says(Ber, Fields::All),
         "unbind request, indefinite length",
         "308002010342000000",
     ),
     (
         Kind::LdapMessage,
-        Claim::IsEncoding,
-        "DER encoding of: unbind request, indefinite length",
-        "30050201034200",
+        Claim::IsNoEncoding,
+        "no DER encoding: unbind request, indefinite length",
+        "308002010342000000",
     ),
     (
         Kind::LdapMessage,
-        Claim::Becomes("301702010265070a010004000400a00930070405312e322e33"),
+        Claim::Says(Ber, Fields::All),
         "criticality FALSE written out",
         "301a02010265070a010004000400a00c300a0405312e322e33010100",
+    ),
+    (
+        Kind::LdapMessage,
+        Claim::IsNoEncoding,
+        "no DER encoding: criticality FALSE written out",
+        "301a02010265070a010004000400a00c300a0405312e322e33010100",
+    ),
+    (
+        Kind::LdapMessage,
+        Claim::Says(Ber, Fields::All),
+        "values in another order",
+        "301b02010264160404636e3d61300e300c0402636e3106040162040161",
+    ),
+    (
+        Kind::LdapMessage,
+        Claim::IsNoEncoding,
+        "no DER encoding: values in another order",
+        "301b02010264160404636e3d61300e300c0402636e3106040162040161",
+    ),
+    // filters in BER, and their DER encodings, which come back
+    (
+        Kind::LdapFilter,
+        Claim::Becomes("a016870b6f626a656374436c617373a3070402636e040178"),
+        "filters in another order",
+        "a016a3070402636e040178870b6f626a656374436c617373",
+    ),
+    (
+        Kind::LdapFilter,
+        Claim::IsEncoding,
+        "DER encoding of: filters in another order",
+        "a016870b6f626a656374436c617373a3070402636e040178",
+    ),
+    (
+        Kind::LdapFilter,
+        Claim::Becomes("a903830176"),
+        "dnAttributes FALSE written out",
+        "a906830176840100",
+    ),
+    (
+        Kind::LdapFilter,
+        Claim::IsEncoding,
+        "DER encoding of: dnAttributes FALSE written out",
+        "a903830176",
+    ),
+    // the DER encodings of these messages
+    (
+        Kind::LdapMessage,
+        Claim::IsEncoding,
+        "DER encoding of: unbind request, indefinite length",
+        "30050201034200",
     ),
     (
         Kind::LdapMessage,
@@ -303,44 +483,9 @@ static ROWS: [Row; 53] = [
     ),
     (
         Kind::LdapMessage,
-        Claim::Becomes("301b02010264160404636e3d61300e300c0402636e3106040161040162"),
-        "values in another order",
-        "301b02010264160404636e3d61300e300c0402636e3106040162040161",
-    ),
-    (
-        Kind::LdapMessage,
         Claim::IsEncoding,
         "DER encoding of: values in another order",
         "301b02010264160404636e3d61300e300c0402636e3106040161040162",
-    ),
-    (
-        Kind::LdapMessage,
-        Claim::Becomes(
-            "3034020102632f040464633d610a01020a0100020100020100010100a016870b6f626a656374436c6173\
-             73a3070402636e0401783000",
-        ),
-        "filters in another order",
-        "3034020102632f040464633d610a01020a0100020100020100010100a016a3070402636e040178870b6f\
-         626a656374436c6173733000",
-    ),
-    (
-        Kind::LdapMessage,
-        Claim::IsEncoding,
-        "DER encoding of: filters in another order",
-        "3034020102632f040464633d610a01020a0100020100020100010100a016870b6f626a656374436c6173\
-         73a3070402636e0401783000",
-    ),
-    (
-        Kind::LdapMessage,
-        Claim::Becomes("3021020102631c040464633d610a01020a0100020100020100010100a9038301763000"),
-        "dnAttributes FALSE written out",
-        "3024020102631f040464633d610a01020a0100020100020100010100a9068301768401003000",
-    ),
-    (
-        Kind::LdapMessage,
-        Claim::IsEncoding,
-        "DER encoding of: dnAttributes FALSE written out",
-        "3021020102631c040464633d610a01020a0100020100020100010100a9038301763000",
     ),
     // what a search asks
     (
@@ -353,12 +498,61 @@ static ROWS: [Row; 53] = [
 ];
 
 impl Looks for Encoded<LdapMessage> {
-    // Whether it asks for what isn't one thing and equals another.
-    fn has(&self, _fields: Fields) -> bool {
-        match &self.value.protocol_op {
-            ProtocolOp::SearchRequest(request) => has_both(&request.filter),
-            _ => false,
+    fn has(&self, fields: Fields) -> bool {
+        match fields {
+            Fields::Numbers => has_numbers(&self.value.protocol_op),
+            Fields::Unknown => is_unknown(&self.value),
+            _ => is_whole(&self.value),
         }
+    }
+}
+
+// Whether its numbers are those that the rows speak of.
+fn has_numbers(operation: &ProtocolOp) -> bool {
+    match operation {
+        ProtocolOp::SearchRequest(request) => {
+            request.scope == Scope::Other(3)
+                && request.deref_aliases == DerefAliases::NeverDerefAliases
+        }
+        ProtocolOp::SearchResultDone(done) => done.result.result_code == ResultCode::NoSuchObject,
+        _ => false,
+    }
+}
+
+// Whether the operation is unknown, or one component is.
+fn is_unknown(message: &LdapMessage) -> bool {
+    match &message.protocol_op {
+        ProtocolOp::Unknown(_) => message.unknown.is_empty(),
+        _ => message.unknown.len() == 1,
+    }
+}
+
+// Whether it asks for what isn't one thing and equals another, has an attribute with two values, one control, or asks to unbind.
+fn is_whole(message: &LdapMessage) -> bool {
+    match &message.protocol_op {
+        ProtocolOp::SearchRequest(request) => has_both(&request.filter),
+        ProtocolOp::SearchResultEntry(entry) => has_two_values(&entry.attributes),
+        ProtocolOp::SearchResultDone(_) => has_control(&message.controls),
+        ProtocolOp::UnbindRequest(_) => true,
+        _ => false,
+    }
+}
+
+fn has_two_values(attributes: &[PartialAttribute]) -> bool {
+    match attributes {
+        [attribute] => attribute.vals.len() == 2,
+        _ => false,
+    }
+}
+
+// Whether there is one control, which isn't critical.
+fn has_control(controls: &Option<Vec<Control>>) -> bool {
+    match controls {
+        Some(controls) => match controls.as_slice() {
+            [control] => !control.criticality,
+            _ => false,
+        },
+        None => false,
     }
 }
 

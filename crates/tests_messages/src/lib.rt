@@ -9,8 +9,9 @@
 //! | `ldap_in_cer` | messages of `ldap` in CER |
 //! | `ldap_messages` | messages of `ldap` |
 //! | `messages` | types of `x509` and `snmp`, which are made of types |
+//! | `named_bits` | the named bits of `x509` |
 //! | `parts` | a SEQUENCE of parts that are pairs |
-//! | `prepended` | bit strings and numbers that are prepended to a buffer |
+//! | `prepended` | bit strings, numbers and a type without bodies of its own, prepended to a buffer |
 //! | `snmp_messages` | messages of `snmp` |
 //! | `texts` | a type of texts, made for these tests |
 #![tactic(auto)]
@@ -29,6 +30,8 @@ mod ldap_in_cer;
 mod ldap_messages;
 #[cfg(test)]
 mod messages;
+#[cfg(test)]
+mod named_bits;
 #[cfg(test)]
 mod parts;
 #[cfg(test)]

@@ -1,10 +1,15 @@
-//! Elements that are prepended to a buffer by one call each: bit strings and numbers.
+//! Elements that are prepended to a buffer by one call each: bit strings and numbers, and a type without bodies of its own for that.
+ghost use Rattle.std.specs.Prelude.{◌≡◌, refl};
 
 use crate::checks::{bytes_of, finds_none};
 use std::alloc::Global;
 use yasna::BERMode::{Cer, Der};
 use yasna::tags::{TAG_BITSTRING, TAG_INTEGER};
-use yasna::{ASN1Result, BERMode, PrependBuffer, bigint_len, bitvec_len};
+use yasna::{
+    ASN1Result, BERMode, DERExact, DERWriter, PrependBuffer, bigint_len, bitvec_len, decode_der,
+    encode_der, one_der_encoding,
+};
+use yasna_notation::{DefinedType, Encoded, Sequence};
 
 // What is prepended to a buffer by one call.
 #[derive(Clone, Copy)]
@@ -90,4 +95,78 @@ fn first_failing(alloc: Global) -> Option<&'static str> {
 #[test]
 fn elements_are_prepended(rt: HostRuntime) {
     finds_none(&rt, first_failing(rt.alloc()));
+}
+
+// Contents of a BIT STRING that CER cuts into a segment of 999 bytes and one of the last byte (X.690, 9.2).
+const LONG_BITS: [u8; 1000] = [0; 1000];
+
+// How that begins: the header, and the header of a segment with no unused bits.
+const FIRST_SEGMENT: [u8; 7] = [0x23, 0x80, 0x03, 0x82, 0x03, 0xe8, 0x00];
+
+// How it ends: the last byte, in a segment of its own, and the end of contents.
+const LAST_SEGMENT: [u8; 6] = [0x03, 0x02, 0x00, 0x00, 0x00, 0x00];
+
+// Whether a BIT STRING that CER cuts is prepended in its segments.
+fn are_segments_prepended(alloc: Global) -> ASN1Result<bool> {
+    let mut encoding = Vec::from_slice(alloc, &FIRST_SEGMENT)?;
+    encoding.extend_from_slice(&LONG_BITS[1..])?;
+    encoding.extend_from_slice(&LAST_SEGMENT)?;
+    let mut out = PrependBuffer::new(alloc, Cer);
+    out.prepend_bitvec_bytes(TAG_BITSTRING, &LONG_BITS, 8000)?;
+    let bytes = out.finish()?;
+    let has_no_len = bitvec_len(Cer, TAG_BITSTRING, &LONG_BITS).is_none();
+    Ok(has_no_len && bytes.as_slice() == encoding.as_slice())
+}
+
+#[test]
+fn segments_of_bits_are_prepended(rt: HostRuntime) {
+    match are_segments_prepended(rt.alloc()) {
+        Ok(true) => {}
+        _ => finds_none(&rt, Some("bits in segments")),
+    }
+}
+
+type NumberParts = (i64, ());
+
+/// A number in a SEQUENCE, which is only written in order: how it is prepended is left to the trait.
+#[derive(Drop)]
+struct Number {
+    number: i64,
+}
+
+impl DefinedType for Number {
+    type Notation = Sequence<NumberParts>;
+
+    ghost value_of = { λ v. (v.number, tt) };
+
+    fn from_value((number, ()): (i64, ())) -> Number {
+        Number { number }
+    }
+
+    fn write_value(&self, writer: DERWriter<'_>) -> ASN1Result<()> {
+        Sequence::<NumberParts>::write_fields((&self.number, ()), writer)
+    }
+
+    ghost unambiguous = { refl };
+}
+
+// Whether the value that these bytes encode has no known length, and is prepended and written as them.
+fn is_prepended_as_written<T: DERExact>(alloc: Global, bytes: &[u8]) -> ASN1Result<bool> {
+    one_der_encoding::<T>();
+    let value: T = decode_der(alloc, bytes)?;
+    let has_no_len = value.encoded_len(Der).is_none();
+    let mut out = PrependBuffer::new(alloc, Der);
+    value.prepend_der(&mut out)?;
+    let backwards = out.finish()?;
+    let forwards = encode_der(alloc, &value)?;
+    let are_bytes = backwards.as_slice() == bytes && forwards.as_slice() == bytes;
+    Ok(has_no_len && are_bytes)
+}
+
+#[test]
+fn types_without_bodies_are_prepended(rt: HostRuntime) {
+    match is_prepended_as_written::<Encoded<Number>>(rt.alloc(), &[48, 3, 2, 1, 5]) {
+        Ok(true) => {}
+        _ => finds_none(&rt, Some("a number in a SEQUENCE")),
+    }
 }

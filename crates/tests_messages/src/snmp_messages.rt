@@ -2,7 +2,7 @@
 
 use crate::checks::{Claim, Fields, Looks, finds_none};
 use crate::kinds::{Kind, Row, first_failing};
-use snmp::{ApplicationSyntax, SimpleSyntax, v2c};
+use snmp::{ApplicationSyntax, SimpleSyntax, v1, v2c};
 use yasna::BERMode::{Ber, Der};
 use yasna_notation::Encoded;
 
@@ -38,7 +38,7 @@ const VERSION_3: &str =
     "302602010304067075626c6963a019020101020100020100300e300c06082b060102010101000500";
 
 // Each version has its own messages.
-static ROWS: [Row; 15] = [
+static ROWS: [Row; 21] = [
     (Kind::SnmpV1, Claim::IsEncoding, "GET", GET),
     (Kind::SnmpV1, Claim::IsEncoding, "TRAP", TRAP),
     (Kind::SnmpV2c, Claim::IsEncoding, "RESPONSE", RESPONSE),
@@ -61,6 +61,42 @@ static ROWS: [Row; 15] = [
         Claim::Says(Ber, Fields::All),
         "what RESPONSE says",
         RESPONSE,
+    ),
+    (
+        Kind::SnmpV2c,
+        Claim::IsEncoding,
+        "response with the error notWritable (17)",
+        "302602010104067075626c6963a219020101020111020101300e300c06082b060102010101000500",
+    ),
+    (
+        Kind::SnmpV2c,
+        Claim::Says(Ber, Fields::Numbers),
+        "that the error is notWritable",
+        "302602010104067075626c6963a219020101020111020101300e300c06082b060102010101000500",
+    ),
+    (
+        Kind::SnmpV1,
+        Claim::Says(Ber, Fields::Numbers),
+        "that the trap is of an enterprise",
+        TRAP,
+    ),
+    (
+        Kind::SnmpV1,
+        Claim::Says(Ber, Fields::Numbers),
+        "that the error is noSuchName (2)",
+        "302602010004067075626c6963a219020101020102020101300e300c06082b060102010101000500",
+    ),
+    (
+        Kind::SnmpV1,
+        Claim::IsEncoding,
+        "response with the error 18, which SNMPv1 doesn't name",
+        "302602010004067075626c6963a219020101020112020101300e300c06082b060102010101000500",
+    ),
+    (
+        Kind::SnmpV1,
+        Claim::Says(Ber, Fields::Unknown),
+        "that SNMPv1 doesn't name the error 18",
+        "302602010004067075626c6963a219020101020112020101300e300c06082b060102010101000500",
     ),
     (Kind::SnmpV2c, Claim::Becomes(SHORTEST), "LONG in DER", LONG),
     (Kind::SnmpV2c, Claim::IsEncoding, "SHORTEST", SHORTEST),
@@ -101,8 +137,35 @@ static ROWS: [Row; 15] = [
 
 impl Looks for Encoded<v2c::SnmpMessage> {
     // Whether it is the result to the public community that RESPONSE is.
-    fn has(&self, _fields: Fields) -> bool {
-        self.value.community.as_slice() == b"public".as_slice() && is_response(&self.value.data)
+    fn has(&self, fields: Fields) -> bool {
+        match fields {
+            Fields::Numbers => is_not_writable(&self.value.data),
+            _ => {
+                self.value.community.as_slice() == b"public".as_slice()
+                    && is_response(&self.value.data)
+            }
+        }
+    }
+}
+
+fn is_not_writable(data: &v2c::Pdus) -> bool {
+    match data {
+        v2c::Pdus::Response(pdu) => pdu.error_status == v2c::ErrorStatus::NotWritable,
+        _ => false,
+    }
+}
+
+impl Looks for Encoded<v1::SnmpMessage> {
+    // Whether it is a trap of an enterprise, or a response with the error that the row speaks of.
+    fn has(&self, fields: Fields) -> bool {
+        match &self.value.data {
+            v1::Pdus::Trap(trap) => trap.generic_trap == v1::GenericTrap::EnterpriseSpecific,
+            v1::Pdus::GetResponse(pdu) => match fields {
+                Fields::Unknown => pdu.error_status == v1::ErrorStatus::Other(18),
+                _ => pdu.error_status == v1::ErrorStatus::NoSuchName,
+            },
+            _ => false,
+        }
     }
 }
 

@@ -17,20 +17,25 @@
 //! | `attribute_type_and_value`, `relative_distinguished_name`, `name` | names, their levels and the attributes of these |
 //! | `attribute` | attributes |
 //! | `extension`, `extensions` | an extension, and all of a certificate or a list |
+//! | `key_usage`, `reason_flags` | what a key may be used for, and reasons of a revocation, as extensions hold them |
 //! | `subject_parts`, `tbs_certificate`, `certificate` | certificates, and what is signed of them |
 //! | `revoked_certificate`, `tbs_cert_list`, `certificate_list` | revocation lists, their entries, and what is signed of them |
+//! | `bits` | the bits of a BIT STRING by their numbers |
 //! | `signed` | certificates and lists with the bytes that are signed |
 #![tactic(auto)]
 
 mod algorithm;
 mod attribute;
 mod attribute_type_and_value;
+mod bits;
 mod certificate;
 mod certificate_list;
 mod extension;
 mod extensions;
+mod key_usage;
 mod name;
 mod public_key;
+mod reason_flags;
 mod relative_distinguished_name;
 mod revoked_certificate;
 mod signed;
@@ -48,8 +53,10 @@ pub use certificate::Certificate;
 pub use certificate_list::CertificateList;
 pub use extension::Extension;
 pub use extensions::Extensions;
+pub use key_usage::KeyUsage;
 pub use name::Name;
 pub use public_key::SubjectPublicKeyInfo;
+pub use reason_flags::ReasonFlags;
 pub use relative_distinguished_name::RelativeDistinguishedName;
 pub use revoked_certificate::RevokedCertificate;
 pub use signed::{Signed, read_signed_certificate, read_signed_list};

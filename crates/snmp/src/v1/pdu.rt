@@ -3,7 +3,7 @@
 //! ```text
 //! PDU ::= SEQUENCE {
 //!     request-id         INTEGER,
-//!     error-status       INTEGER { noError(0), .., genErr(5) },
+//!     error-status       ErrorStatus,
 //!     error-index        INTEGER,
 //!     variable-bindings  VarBindList }
 //!
@@ -21,25 +21,25 @@ ghost use Rattle.snmp.specs.contracts.v1.var_bind.VarBindCanonicalNotation.TheIm
 ghost use Rattle.yasna_notation.specs.contracts.simple.I64Notation.TheImpl.Laws.{lawful-law as int64};
 ghost use Rattle.yasna_notation.specs.contracts.canonical.I64CanonicalNotation.TheImpl.Laws.{written-law as int64_written};
 
+use crate::v1::error_status::ErrorStatus;
 use crate::v1::var_bind::VarBind;
 use yasna::tags::TAG_SEQUENCE;
 use yasna::{ASN1Result, BERMode, BERReader, DERWriter, PrependBuffer, Tag};
 use yasna_notation::{
-    CanonicalNotation, Message, Notation, Represents, Sequence, SequenceOf, read_as,
+    CanonicalNotation, DefinedType, Message, Notation, Represents, Sequence, SequenceOf, read_as,
 };
 
 type VarBindList = SequenceOf<VarBind>;
 
-type Parts = (i64, (i64, (i64, (VarBindList, ()))));
+type Parts = (i64, (ErrorStatus, (i64, (VarBindList, ()))));
 
-type Fields = (i64, (i64, (i64, (Vec<VarBind>, ()))));
+type Fields = (i64, (ErrorStatus, (i64, (Vec<VarBind>, ()))));
 
 /// What most protocol data units hold.
 #[derive(Drop)]
 pub struct Pdu {
     pub request_id: i64,
-    /// 0 where there was no error.
-    pub error_status: i64,
+    pub error_status: ErrorStatus,
     /// The number of the variable at error, from 1; 0 for none.
     pub error_index: i64,
     pub variable_bindings: Vec<VarBind>,
@@ -117,7 +117,8 @@ impl Notation for Pdu {
     }
 
     ghost lawful = { λ _. represented_lawful ⟦<Pdu as Represents<Fields>>⟧.value_of (in_sequence
-        (part (int64 refl).own (part (int64 refl).own (part (int64 refl).own (part (in_sequence_of (binding1 refl).own).own no_parts))))) };
+        (part (int64 refl).own (part (represented_lawful ⟦<ErrorStatus as DefinedType>⟧.value_of (int64 refl)).own
+        (part (int64 refl).own (part (in_sequence_of (binding1 refl).own).own no_parts))))) };
 
     ghost non_empty = { λ u m v. element_non_empty _ _ _ _ };
 }
@@ -128,6 +129,7 @@ impl Message for Pdu {
 
 impl CanonicalNotation for Pdu {
     ghost written = { λ _. represented_written ⟦<Pdu as Represents<Fields>>⟧.value_of (sequence_written
-        (part_written (int64_written refl).own (part_written (int64_written refl).own (part_written (int64_written refl).own
+        (part_written (int64_written refl).own (part_written (represented_written ⟦<ErrorStatus as DefinedType>⟧.value_of (int64_written refl)).own
+        (part_written (int64_written refl).own
         (part_written (sequence_of_written (binding1_written refl).own).own no_part_written))))) };
 }

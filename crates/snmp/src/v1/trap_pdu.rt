@@ -28,13 +28,14 @@ ghost use Rattle.yasna_notation.specs.contracts.canonical.VecU8CanonicalNotation
 ghost use Rattle.yasna_notation.specs.contracts.simple.ObjectIdentifierNotation.TheImpl.Laws.{lawful-law as oid};
 ghost use Rattle.yasna_notation.specs.contracts.canonical.ObjectIdentifierCanonicalNotation.TheImpl.Laws.{written-law as oid_written};
 
+use crate::v1::generic_trap::GenericTrap;
 use crate::v1::var_bind::VarBind;
 use yasna::models::ObjectIdentifier;
 use yasna::tags::TAG_SEQUENCE;
 use yasna::{ASN1Result, BERMode, BERReader, DERWriter, PrependBuffer, Tag};
 use yasna_notation::{
-    Application, Bounded, CanonicalNotation, Implicit, Message, Notation, Represents, Sequence,
-    SequenceOf, Size, read_as,
+    Application, Bounded, CanonicalNotation, DefinedType, Implicit, Message, Notation, Represents,
+    Sequence, SequenceOf, Size, read_as,
 };
 
 type NetworkAddress = Implicit<Application<0>, Bounded<Vec<u8>, Size<4>>>;
@@ -45,12 +46,15 @@ type VarBindList = SequenceOf<VarBind>;
 
 type Parts = (
     ObjectIdentifier,
-    (NetworkAddress, (i64, (i64, (TimeTicks, (VarBindList, ()))))),
+    (
+        NetworkAddress,
+        (GenericTrap, (i64, (TimeTicks, (VarBindList, ())))),
+    ),
 );
 
 type Fields = (
     ObjectIdentifier,
-    (Vec<u8>, (i64, (i64, (u32, (Vec<VarBind>, ()))))),
+    (Vec<u8>, (GenericTrap, (i64, (u32, (Vec<VarBind>, ()))))),
 );
 
 /// What a trap holds.
@@ -59,7 +63,7 @@ pub struct TrapPdu {
     pub enterprise: ObjectIdentifier,
     /// Four octets.
     pub agent_addr: Vec<u8>,
-    pub generic_trap: i64,
+    pub generic_trap: GenericTrap,
     pub specific_trap: i64,
     /// Hundredths of a second.
     pub time_stamp: u32,
@@ -148,7 +152,7 @@ impl Notation for TrapPdu {
     ghost lawful = { λ _. represented_lawful ⟦<TrapPdu as Represents<Fields>>⟧.value_of (in_sequence
         (part (oid refl).own
         (part (in_application 0 (omega arith) (octets_sized (exactly 4) (octets refl))).own
-        (part (int64 refl).own (part (int64 refl).own (part (in_application 3 (omega arith) (count32 refl)).own
+        (part (represented_lawful ⟦<GenericTrap as DefinedType>⟧.value_of (int64 refl)).own (part (int64 refl).own (part (in_application 3 (omega arith) (count32 refl)).own
         (part (in_sequence_of (binding1 refl).own).own no_parts))))))) };
 
     ghost non_empty = { λ u m v. element_non_empty _ _ _ _ };
@@ -162,7 +166,7 @@ impl CanonicalNotation for TrapPdu {
     ghost written = { λ _. represented_written ⟦<TrapPdu as Represents<Fields>>⟧.value_of (sequence_written
         (part_written (oid_written refl).own
         (part_written (under_application 0 (omega arith) (octets_sized_written (exactly 4) (octets_written refl))).own
-        (part_written (int64_written refl).own (part_written (int64_written refl).own
+        (part_written (represented_written ⟦<GenericTrap as DefinedType>⟧.value_of (int64_written refl)).own (part_written (int64_written refl).own
         (part_written (under_application 3 (omega arith) (count32_written refl)).own
         (part_written (sequence_of_written (binding1_written refl).own).own no_part_written))))))) };
 }

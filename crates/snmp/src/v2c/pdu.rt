@@ -27,28 +27,28 @@ ghost use Rattle.yasna_notation.specs.contracts.canonical.U64CanonicalNotation.T
 ghost use Rattle.yasna_notation.specs.contracts.simple.I32Notation.TheImpl.Laws.{lawful-law as int32};
 ghost use Rattle.yasna_notation.specs.contracts.canonical.I32CanonicalNotation.TheImpl.Laws.{written-law as int32_written};
 
+use crate::v2c::error_status::ErrorStatus;
 use crate::v2c::var_bind::VarBind;
 use yasna::tags::TAG_SEQUENCE;
 use yasna::{ASN1Result, BERMode, BERReader, DERWriter, PrependBuffer, Tag};
 use yasna_notation::{
-    AtMost, Bounded, CanonicalNotation, Message, Notation, Represents, Sequence, SequenceOf,
-    SizeAtMost, read_as,
+    AtMost, Bounded, CanonicalNotation, DefinedType, Message, Notation, Represents, Sequence,
+    SequenceOf, SizeAtMost, read_as,
 };
 
 type Index = Bounded<u64, AtMost<2147483647>>;
 
 type VarBindList = Bounded<SequenceOf<VarBind>, SizeAtMost<2147483647>>;
 
-type Parts = (i32, (i32, (Index, (VarBindList, ()))));
+type Parts = (i32, (ErrorStatus, (Index, (VarBindList, ()))));
 
-type Fields = (i32, (i32, (u64, (Vec<VarBind>, ()))));
+type Fields = (i32, (ErrorStatus, (u64, (Vec<VarBind>, ()))));
 
 /// What most protocol data units hold.
 #[derive(Drop)]
 pub struct Pdu {
     pub request_id: i32,
-    /// 0 where there was no error.
-    pub error_status: i32,
+    pub error_status: ErrorStatus,
     /// The number of the variable at error, from 1 to 2147483647; 0 for none.
     pub error_index: u64,
     /// 2147483647 at most.
@@ -127,7 +127,7 @@ impl Notation for Pdu {
     }
 
     ghost lawful = { λ _. represented_lawful ⟦<Pdu as Represents<Fields>>⟧.value_of (in_sequence
-        (part (int32 refl).own (part (int32 refl).own (part (at_most 2147483647 (count64 refl)).own
+        (part (int32 refl).own (part (represented_lawful ⟦<ErrorStatus as DefinedType>⟧.value_of (int32 refl)).own (part (at_most 2147483647 (count64 refl)).own
         (part (list_sized (λ k. not (nat_lt 2147483647 k)) (in_sequence_of (binding refl).own)).own no_parts))))) };
 
     ghost non_empty = { λ u m v. element_non_empty _ _ _ _ };
@@ -139,7 +139,7 @@ impl Message for Pdu {
 
 impl CanonicalNotation for Pdu {
     ghost written = { λ _. represented_written ⟦<Pdu as Represents<Fields>>⟧.value_of (sequence_written
-        (part_written (int32_written refl).own (part_written (int32_written refl).own
+        (part_written (int32_written refl).own (part_written (represented_written ⟦<ErrorStatus as DefinedType>⟧.value_of (int32_written refl)).own
         (part_written (at_most_written 2147483647 (count64_written refl)).own
         (part_written (list_sized_written (λ k. not (nat_lt 2147483647 k))
         (sequence_of_written (binding_written refl).own)).own no_part_written))))) };

@@ -43,3 +43,6 @@ encoded_len-requires-in-SearchResultReference c = can_as choice.means c.in-Searc
 
 pub returns-in-SearchResultReference : goal.returns-in-SearchResultReference
 returns-in-SearchResultReference c = known_as choice.means c.in-SearchResultReference.is c.args.under c.args.mode _ c.encoded_len-in-SearchResultReference.ensures
+
+pub returns-in-Unknown : goal.returns-in-Unknown
+returns-in-Unknown c = known_as choice.means c.in-Unknown.is c.args.under c.args.mode _ c.encoded_len-in-Unknown.ensures

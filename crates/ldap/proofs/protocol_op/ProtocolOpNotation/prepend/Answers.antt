@@ -43,3 +43,6 @@ prepend-requires-in-SearchResultReference c = can_as choice.means c.in-SearchRes
 
 pub returns-in-SearchResultReference : goal.returns-in-SearchResultReference
 returns-in-SearchResultReference c = prepended_as choice.means c.in-SearchResultReference.is c.args.under c.args.out.now _ _ c.prepend-in-SearchResultReference.ensures
+
+pub returns-in-Unknown : goal.returns-in-Unknown
+returns-in-Unknown c = prepended_as choice.means c.in-Unknown.is c.args.under c.args.out.now _ _ c.prepend-in-Unknown.ensures

@@ -43,3 +43,6 @@ write-requires-in-SearchResultReference c = can_as choice.means c.in-SearchResul
 
 pub returns-in-SearchResultReference : goal.returns-in-SearchResultReference
 returns-in-SearchResultReference c = written_as choice.means c.in-SearchResultReference.is c.args.writer.now _ _ c.write-in-SearchResultReference.ensures
+
+pub returns-in-Unknown : goal.returns-in-Unknown
+returns-in-Unknown c = written_as choice.means c.in-Unknown.is c.args.writer.now _ _ c.write-in-Unknown.ensures
