@@ -1,6 +1,10 @@
-"""What ci/program_ends.sh runs: each program with a closed pipe, an argument that isn't text, and little memory."""
+"""What ci/program_ends.sh runs: each program with a closed pipe, an argument that isn't text, and little memory.
+
+Its help, its manual page and its completions name the same options, and its version names the logic of the kit.
+"""
 
 import os
+import re
 import resource
 import subprocess
 import sys
@@ -11,6 +15,7 @@ NO_MEMORY = b"out of memory"
 # Room for the program itself, but not for an input of MANY octets.
 FEW = 64 << 20
 MANY = 256 << 20
+OPTION = re.compile(r"--[a-z]+")
 # Elements for a long listing.
 NULLS = b"\x05\x00" * 200_000
 
@@ -41,6 +46,37 @@ def stored(crate):
     return [it for it in words if it], (folder / "stdin").read_bytes()
 
 
+def said(words):
+    """What a command prints, and its status."""
+    ran = subprocess.run(words, stdin=subprocess.DEVNULL, capture_output=True, text=True)
+    return ran.returncode, ran.stdout
+
+
+def options(text):
+    return sorted(set(OPTION.findall(text)))
+
+
+def manual(crate):
+    """The text of its manual page, without the marks of its layout."""
+    return Path(f"docs/man/{crate}.1").read_text().replace("\\", "")
+
+
+def completed(crate):
+    """The options that bash completes."""
+    ask = f"source ci/completions/asn1.bash; COMP_WORDS=({crate} --); COMP_CWORD=1; _asn1 {crate}; printf '%s\\n' \"${{COMPREPLY[@]}}\""
+    return said(["bash", "-c", ask])[1]
+
+
+def texts(crate):
+    """Each text of the program itself: its name, what it says, and what it is to say."""
+    status, help_text = said([f"crates/{crate}/out/{crate}", "--help"])
+    yield "the help", (status, "--help" in help_text), (0, True)
+    logic = re.search(r"logic \w+", said(["rt", "version"])[1])[0]
+    yield "the version", said([f"crates/{crate}/out/{crate}", "--version"]), (0, f"{crate} 0.6.0, {logic}\n")
+    yield "the options of the manual", options(manual(crate)), options(help_text)
+    yield "the options of the completions", options(completed(crate)), options(help_text)
+
+
 def cases(crate):
     """Each case: its name, how the program ends, and how it is to end."""
     words, given = stored(crate)
@@ -55,7 +91,7 @@ def cases(crate):
 def main(crates):
     passed = failed = 0
     for crate in crates:
-        for name, found, wanted in cases(crate):
+        for name, found, wanted in [*cases(crate), *texts(crate)]:
             if found == wanted:
                 passed += 1
             else:

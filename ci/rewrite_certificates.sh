@@ -24,7 +24,7 @@ BLOCK = re.compile(r'-----BEGIN CERTIFICATE-----(.*?)-----END CERTIFICATE-----',
 
 
 def rewritten(program, der):
-    return subprocess.run([program, 'certificate'], input=der, capture_output=True)
+    return subprocess.run([program, '--encode', 'certificate'], input=der, capture_output=True)
 
 
 program, folder = sys.argv[1:]

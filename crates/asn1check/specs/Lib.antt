@@ -1,1 +1,2 @@
 pub mod Rewriting
+pub mod Messages

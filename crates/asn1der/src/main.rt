@@ -1,4 +1,5 @@
-//! `asn1der [--strict]` reads elements in BER from standard input, and writes the same elements in DER to standard output.
+//! `asn1der [--strict] [FILE]` reads elements in BER from a file or standard input, and writes the same elements in DER to standard
+//! output.
 //!
 //! | Status | When |
 //! |---|---|
@@ -7,35 +8,21 @@
 //! | 2 | usage error |
 //! | 3 | I/O error, or out of memory |
 //!
-//! The crate `asn1der_convert` holds what it does between its ends, and `program_io` the ends.
+//! `options` has those of the command line. The crate `asn1der_convert` holds what it does between its ends, and `program_io` the ends.
 #![tactic(auto)]
+
+mod options;
 
 use asn1der_convert::ambiguity::{Ambiguities, Ambiguity};
 use asn1der_convert::conversion::{Converted, convert};
 use asn1der_convert::error::ConvertError;
-use program_io::{ProgramError, arguments, read_input, write_output};
+use options::{Options, options_of};
+use program_io::{ProgramError, arguments, explain, write_output};
 use std::io::Write;
 use std::process::ExitCode;
 
 // The status if the input is malformed or ambiguous.
 const REJECTED: u8 = 1;
-
-// The status after a usage error.
-const USAGE_ERROR: u8 = 2;
-
-const USAGE: &str = "usage: asn1der [--strict]
-Reads elements in BER from standard input, and writes them in DER to standard output.
---strict rejects elements whose DER encoding depends on a schema.
-No schema is known: values that equal a DEFAULT stay, though DER leaves them out.";
-
-// Whether the arguments ask for `--strict`, or None after a usage error.
-fn is_strict(words: &[String]) -> Option<bool> {
-    match words {
-        [_] => Some(false),
-        [_, word] if word.as_str() == "--strict" => Some(true),
-        _ => None,
-    }
-}
 
 // Reports the first ambiguity of each kind.
 fn report(rt: &HostRuntime, ambiguities: &Ambiguities) {
@@ -73,14 +60,14 @@ fn finish(rt: &HostRuntime, converted: &Converted, strict: bool) -> u8 {
     }
 }
 
-// Converts standard input, and returns the status.
-fn run(rt: &HostRuntime, strict: bool) -> u8 {
-    let input = match read_input(rt) {
+// Converts the input that the options name, and returns the status.
+fn run(rt: &HostRuntime, options: &Options<'_>) -> u8 {
+    let input = match options.input.read(rt) {
         Ok(input) => input,
-        Err(error) => return error.report(rt),
+        Err(status) => return status,
     };
     match convert(rt.alloc(), input.as_slice()) {
-        Ok(converted) => finish(rt, &converted, strict),
+        Ok(converted) => finish(rt, &converted, options.strict),
         Err(error) => reject(rt, &error),
     }
 }
@@ -90,11 +77,9 @@ fn main(rt: HostRuntime) -> ExitCode {
         Ok(words) => words,
         Err(error) => return ExitCode::from(error.report(&rt)),
     };
-    match is_strict(words.as_slice()) {
-        Some(strict) => ExitCode::from(run(&rt, strict)),
-        None => {
-            let _ = writeln!(rt.stderr(), "{USAGE}");
-            ExitCode::from(USAGE_ERROR)
-        }
-    }
+    let status = match options_of(rt.alloc(), words.as_slice()) {
+        Ok(options) => run(&rt, &options),
+        Err(error) => explain(&rt, &error),
+    };
+    ExitCode::from(status)
 }

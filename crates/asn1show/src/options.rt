@@ -2,6 +2,7 @@
 
 use asn1show_lines::InputFormat;
 use clap::{Arg, ArgAction, ArgMatches, Command, Error};
+use program_io::{Input, VERSION};
 use std::alloc::{AllocError, Global};
 use yasna_base::mode::BERMode;
 
@@ -14,8 +15,8 @@ pub struct Options<'a> {
     pub input_format: Option<InputFormat>,
     /// The most hexadecimal digits that are shown of a value.
     pub width: usize,
-    /// The file that is read, or None for standard input.
-    pub file: Option<&'a str>,
+    /// What is read.
+    pub input: Input<'a>,
 }
 
 const WIDTH: usize = 64;
@@ -91,7 +92,7 @@ fn file_arg<'a>(alloc: Global) -> Arg<'a> {
     value_arg(
         alloc,
         "FILE",
-        "The file to read (standard input if there is none)",
+        "The file to read (standard input for - or if there is none)",
     )
 }
 
@@ -117,6 +118,7 @@ fn all_args<'a>(alloc: Global) -> Result<Vec<Arg<'a>>, AllocError> {
 fn without_args<'a>(alloc: Global) -> Result<Command<'a>, AllocError> {
     Command::new(alloc, "asn1show")
         .about("Lists the elements of ASN.1 bytes, a line an element")
+        .version(VERSION)
         .bin_name("asn1show")
 }
 
@@ -160,7 +162,7 @@ fn found<'a>(matches: &ArgMatches<'a>) -> Options<'a> {
         mode: mode_of(matches),
         input_format: format_of(matches),
         width,
-        file: matches.get_str("FILE"),
+        input: Input::named(matches.get_str("FILE")),
     }
 }
 

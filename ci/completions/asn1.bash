@@ -1,0 +1,20 @@
+# Completions of asn1show, asn1der and asn1check for bash.
+
+_asn1() {
+    local word=${COMP_WORDS[COMP_CWORD]} options=
+    case $1 in
+        *asn1show) options='--ber --der --cer --hex --pem --bytes --width --help --version' ;;
+        *asn1der) options='--strict --help --version' ;;
+        *asn1check) options='--ber --der --encode --help --version' ;;
+    esac
+    local kinds='certificate crl public-key private-key cms snmp-v1 snmp-v2c ldap'
+    if [[ $word == -* ]]; then
+        mapfile -t COMPREPLY < <(compgen -W "$options" -- "$word")
+    elif [[ $1 == *asn1check && " ${COMP_WORDS[*]:1:COMP_CWORD-1} " != *\ [a-z]* ]]; then
+        mapfile -t COMPREPLY < <(compgen -W "$kinds" -- "$word")
+    else
+        mapfile -t COMPREPLY < <(compgen -f -- "$word")
+    fi
+}
+
+complete -o filenames -F _asn1 asn1show asn1der asn1check
