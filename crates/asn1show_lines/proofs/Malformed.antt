@@ -13,7 +13,7 @@ use Rattle.asn1show_walk.specs.declared.error.WalkError.{WalkError}
 use Rattle.asn1show_walk.specs.declared.error.WalkError.TheVariants.{Malformed, Memory, Output, ClosedOutput}
 use Rattle.asn1show_walk.proofs.WalkFails.{fails_by}
 use Rattle.asn1show_lines.specs.Reader.{texts, BlockFails, BlockLacks, IsBody, IsDecoded, NoBase64, NoBlock, NoBody, no_base64, no_body}
-use Rattle.asn1show_lines.specs.Text.{IsBase64, IsOutOfMemory}
+use Rattle.asn1show_lines.specs.Text.{IsBase64, IsMemoryError}
 use Rattle.asn1show_lines.specs.declared.block.Line.{Line}
 
 pub malformed_is : (Q : ℕ → ASN1ErrorKind → Type 0) (f : WalkError) (o : ℕ) (k : ASN1ErrorKind) (e : Expected) → f ≡ Malformed o k e → Q o k → IsMalformed Q f
@@ -35,15 +35,15 @@ never_malformed Q ClosedOutput x none = x
 -- ---- what a block decodes to, by its body
 module _ (lines : List Line) (end : ℕ) where
   pub by_body : (body : List Line) → IsBody lines body → (r : Result (Vec ℕ Global) WalkError) → IfOk r (λ bytes. IsBase64 (concat (texts body)) bytes.items) →
-      IfErr r (λ f. WalkFails IsOutOfMemory (NoBase64 body end) f) → IsDecoded lines end r
+      IfErr r (λ f. WalkFails IsMemoryError (NoBase64 body end) f) → IsDecoded lines end r
   by_body body b (Ok bytes) ok err = record {
     headers_end = b.headers_end;
     is_plain = b.is_plain;
     decodes = subst (λ z. IsBase64 (concat z) bytes.items) b.same ok;
   }
-  by_body body b (Err f) ok err = fails_by IsOutOfMemory f (λ o k x. no_base64 body b x) err
+  by_body body b (Err f) ok err = fails_by IsMemoryError f (λ o k x. no_base64 body b x) err
 
-  pub by_no_body : (f : WalkError) → IsMalformed (NoBody lines end) f → WalkFails IsOutOfMemory (NoBlock lines end) f
+  pub by_no_body : (f : WalkError) → IsMalformed (NoBody lines end) f → WalkFails IsMemoryError (NoBlock lines end) f
   by_no_body f x = inr (malformed_by (NoBody lines end) (NoBlock lines end) f (λ o k n. no_body n) x)
 
 -- ---- a block that isn't elements

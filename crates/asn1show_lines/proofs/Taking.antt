@@ -9,7 +9,7 @@ use Rattle.asn1show_walk.specs.Errors.{IsExternal, WalkFails}
 use Rattle.asn1show_walk.specs.declared.error.WalkError.{WalkError}
 use Rattle.asn1show_walk.specs.declared.error.WalkError.TheVariants.{Malformed, Memory, Output, ClosedOutput}
 use Rattle.asn1show_lines.specs.Blocks.{says_encrypted, BeginsBlock, BlockDecodes, DecodeBlocks, EndsBlock}
-use Rattle.asn1show_lines.specs.Text.{IsBase64, IsOutOfMemory}
+use Rattle.asn1show_lines.specs.Text.{IsBase64, IsMemoryError}
 use Rattle.asn1show_lines.specs.Reader.{texts, AwaitsFrom, Awaits, BlockHolds, BlockLacks, IsCutOff, IsDecoded, NoBlock, TakesLine, next_offset, open_lines, has_any, outside, begins, within, ends, cuts, no_blank, encrypted, no_body, no_base64}
 use Rattle.asn1show_lines.specs.declared.block.Line.{Line}
 use Rattle.asn1show_lines.specs.declared.pem.PemReader.{PemReader}
@@ -23,7 +23,7 @@ on_ok_both (Ok x) a b f = f a b
 on_ok_both (Err e) a b f = tt
 
 -- ---- `OutOfMemory` is of the device
-is_external : (f : WalkError) → IsOutOfMemory f → IsExternal f
+is_external : (f : WalkError) → IsMemoryError f → IsExternal f
 is_external f e = subst IsExternal (sym e) tt
 
 -- an error is of the device, or of the input
@@ -89,7 +89,7 @@ module _ (P : List ℕ → Type 0) (old new : PemReader) (line : List ℕ) (rest
   by_cut : (lines : List Line) → open_lines old ≡ Some lines → (EndsBlock line → ⊥) → BeginsBlock line → Awaits P old (line ∷ rest) → ⊥
   by_cut lines f none is w = awaits_cut P line rest lines (has_any old) none is (subst (λ z. AwaitsFrom P z (has_any old) (line ∷ rest)) f w)
 
-  by_error : (lines : List Line) (f : WalkError) → WalkFails IsOutOfMemory (NoBlock lines (next_offset old)) f → (IsExternal f → ⊥) →
+  by_error : (lines : List Line) (f : WalkError) → WalkFails IsMemoryError (NoBlock lines (next_offset old)) f → (IsExternal f → ⊥) →
       open_lines old ≡ Some lines → EndsBlock line → Awaits P old (line ∷ rest) → ⊥
   by_error lines f (inl e) none o end w = none (is_external f e)
   by_error lines f (inr x) none o end w =

@@ -7,7 +7,7 @@ use Rattle.yasna_base.specs.declared.error.ASN1ErrorKind.{ASN1ErrorKind}
 use Rattle.yasna_base.specs.declared.error.ASN1ErrorKind.TheVariants.{Eof, Invalid}
 use Rattle.asn1show_walk.specs.Errors.{IsExternal, IsMalformed, WalkFails}
 use Rattle.asn1show_walk.specs.declared.error.WalkError.{WalkError}
-use Rattle.asn1show_lines.specs.Text.{is_in_base64, IsBase64, IsOutOfMemory}
+use Rattle.asn1show_lines.specs.Text.{is_in_base64, IsBase64, IsMemoryError}
 use Rattle.asn1show_lines.specs.Blocks.{body_in, has_headers, headers_in, is_blank, says_encrypted, BeginsBlock, BlockDecodes, DecodeBlocks, EndsBlock, IsInner}
 use Rattle.asn1show_lines.specs.declared.block.Line.{Line}
 use Rattle.asn1show_lines.specs.declared.pem.PemReader.{PemReader}
@@ -64,7 +64,7 @@ pub data NoBlock (lines : List Line) (end offset : ℕ) (kind : ASN1ErrorKind) :
 -- what the lines of a block decode to, where its last line is at the end
 abbrev pub IsDecoded : List Line → ℕ → Result (Vec ℕ Global) WalkError → Type 0
 IsDecoded lines end (Ok bytes) = BlockDecodes (texts lines) bytes.items
-IsDecoded lines end (Err f) = WalkFails IsOutOfMemory (NoBlock lines end) f
+IsDecoded lines end (Err f) = WalkFails IsMemoryError (NoBlock lines end) f
 
 -- a block has no bytes, since another one or the end of the input cuts it off at the end
 abbrev pub IsCutOff : ℕ → Result (Vec ℕ Global) WalkError → Type 0

@@ -10,9 +10,9 @@ use Rattle.yasna_base.specs.declared.error.ASN1ErrorKind.TheVariants.{Invalid}
 use Rattle.asn1show_walk.specs.declared.error.WalkError.{WalkError}
 use Rattle.asn1show_walk.specs.declared.error.WalkError.TheVariants.{Memory}
 
--- the error is out of memory
-abbrev pub IsOutOfMemory : WalkError → Type 0
-IsOutOfMemory f = f ≡ Memory
+-- the error is `Memory`: out of memory
+abbrev pub IsMemoryError : WalkError → Type 0
+IsMemoryError f = f ≡ Memory
 
 -- the byte order mark in UTF-8 (U+FEFF)
 abbrev pub byte_order_mark : List ℕ

@@ -3,7 +3,7 @@ ghost use Rattle.std.specs.Prelude.{◌≡◌, IfOk, IfErr};
 ghost use Rattle.yasna_base.specs.declared.error.ASN1ErrorKind.TheVariants.{Eof, Invalid};
 ghost use Rattle.asn1show_lines.specs.Blocks.{has_headers, is_blank, says_encrypted, BlockDecodes};
 ghost use Rattle.asn1show_lines.specs.Reader.{texts, IsBody, IsDecoded, NoBlock, NoBody};
-ghost use Rattle.asn1show_lines.specs.Text.{IsOutOfMemory};
+ghost use Rattle.asn1show_lines.specs.Text.{IsMemoryError};
 ghost use Rattle.asn1show_walk.specs.Errors.{IsMalformed, WalkFails};
 ghost use Rattle.asn1show_walk.specs.declared.error.WalkError.TheVariants.{Malformed};
 

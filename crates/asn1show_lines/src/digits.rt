@@ -3,7 +3,7 @@ ghost use Rattle.std.specs.Prelude.{◌≡◌, ◌++◌, ◌+◌, ◌^◌, ◌-�
 ghost use Rattle.std.specs.List.{concat, position_or_len};
 ghost use Rattle.yasna_base.specs.declared.error.ASN1ErrorKind.TheVariants.{Invalid};
 ghost use Rattle.asn1show_lines.specs.Reader.{base64_place, first_stray, has_stray, octet_place, texts, NoBase64};
-ghost use Rattle.asn1show_lines.specs.Text.{base64_of_text, digits_of, is_between, is_in_base64, is_in_hex, text_of, IsBase64, IsHex, IsNoHex, IsOutOfMemory};
+ghost use Rattle.asn1show_lines.specs.Text.{base64_of_text, digits_of, is_between, is_in_base64, is_in_hex, text_of, IsBase64, IsHex, IsNoHex, IsMemoryError};
 ghost use Rattle.asn1show_walk.specs.Errors.{IsMalformed, WalkFails};
 ghost use Rattle.asn1show_walk.specs.declared.error.WalkError.TheVariants.{Malformed};
 
@@ -109,7 +109,7 @@ fn malformed_hex(text: &[u8], start: usize) -> WalkError
 /// The bytes of a text in hexadecimal, which begins at this offset.
 pub fn decode_hex(alloc: Global, text: &[u8], start: usize) -> Result<Vec<u8>, WalkError>
     ensures ok { IfOk result (λ bytes. IsHex text.now bytes.items) }
-    ensures malformed { IfErr result (λ f. WalkFails IsOutOfMemory (IsNoHex text.now start) f) }
+    ensures malformed { IfErr result (λ f. WalkFails IsMemoryError (IsNoHex text.now start) f) }
 {
     let mut digits = Vec::new(alloc);
     push_digits(&mut digits, text)?;
@@ -171,7 +171,7 @@ fn malformed_base64(lines: &[Line<'_>], end: usize, error: DecodeError) -> WalkE
 /// The bytes of lines in base64, which end at this offset.
 pub fn decode_base64(alloc: Global, lines: &[Line<'_>], end: usize) -> Result<Vec<u8>, WalkError>
     ensures ok { IfOk result (λ bytes. IsBase64 (concat (texts lines.now)) bytes.items) }
-    ensures malformed { IfErr result (λ f. WalkFails IsOutOfMemory (NoBase64 lines.now end) f) }
+    ensures malformed { IfErr result (λ f. WalkFails IsMemoryError (NoBase64 lines.now end) f) }
 {
     let mut digits = Vec::new(alloc);
     push_lines(&mut digits, lines)?;

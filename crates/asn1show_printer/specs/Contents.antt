@@ -22,7 +22,10 @@ use Rattle.asn1show_printer.specs.declared.asn_type.AsnType.{AsnType}
 use Rattle.asn1show_printer.specs.declared.asn_type.AsnType.TheVariants.{Boolean, Integer, Bits, Octets, Null, Oid, Relative, Real, Text, Whole, UtcTime, GeneralizedTime, Set, Parts, Unknown}
 use Rattle.asn1show_printer.specs.declared.line.LineBuffer.{LineBuffer}
 use Rattle.asn1show_printer.specs.declared.diagnostic.Diagnostic.{Diagnostic}
-use Rattle.asn1show_printer.specs.declared.diagnostic.Diagnostic.TheVariants.{LongLength, Indefinite, Segments, Truth, Padding, Order, TagOrder, Time, Local, HasParts, HasNoParts, Segment, AfterUnusedBits, Boolean as NoBoolean, Number, Null as NoNull, Bits as NoBits, NoComponent, LongComponent, CutComponent, Characters as NoCharacters, NoTime}
+use Rattle.asn1show_printer.specs.declared.diagnostic.Diagnostic.TheVariants.{LongLength, Indefinite, Segments, Truth, Padding, Order, TagOrder, Time, Local}
+use Rattle.asn1show_printer.specs.declared.diagnostic.Diagnostic.TheVariants.{HasParts, HasNoParts, Segment, AfterUnusedBits, Boolean as NoBoolean, Number}
+use Rattle.asn1show_printer.specs.declared.diagnostic.Diagnostic.TheVariants.{Null as NoNull, Bits as NoBits, NoComponent, LongComponent, CutComponent, NoTime}
+use Rattle.asn1show_printer.specs.declared.diagnostic.Diagnostic.TheVariants.{Characters as NoCharacters}
 
 -- the contents of a bit string: the count of unused bits in the last octet, and the octets
 pub record AreBits (m : BERMode) (c : List ℕ) : Type 0 where

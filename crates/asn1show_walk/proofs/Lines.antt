@@ -12,15 +12,15 @@ use Rattle.yasna_base.specs.Header.{OpensAt, definite_end, indefinite_end}
 use Rattle.yasna_base.specs.Identifier.{identifier, end_tag}
 use Rattle.yasna_base.proofs.Digits.{bytes_prefix}
 use Rattle.yasna_base.proofs.Identifier.{identifier_some}
-use Rattle.asn1show_walk.specs.Listing.{Line, Visits, with_length, with_zeros, Below, ListsElement, ListsCount, ListsOne, ListsBytes}
+use Rattle.asn1show_walk.specs.Listing.{Line, VisitsLines, with_length, with_zeros, Below, ListsElement, ListsCount, ListsOne, ListsBytes}
 
 -- nothing was visited
-pub visits_none : (a : Option (List Line)) → Visits a a []
+pub visits_none : (a : Option (List Line)) → VisitsLines a a []
 visits_none None = tt
 visits_none (Some xs) = sym (append-nil xs)
 
 -- lines were visited, and then more
-pub visits_more : (a b c : Option (List Line)) (xs ys : List Line) → Visits a b xs → Visits b c ys → Visits a c (xs ++ ys)
+pub visits_more : (a b c : Option (List Line)) (xs ys : List Line) → VisitsLines a b xs → VisitsLines b c ys → VisitsLines a c (xs ++ ys)
 visits_more None b c xs ys p q = tt
 visits_more (Some zs) None c xs ys p q = absurd p
 visits_more (Some zs) (Some us) None xs ys p q = absurd q

@@ -6,7 +6,7 @@ use Rattle.yasna_base.specs.declared.mode.BERMode.{BERMode}
 use Rattle.yasna_base.specs.declared.tag.PCBit.TheVariants.{Primitive}
 use Rattle.yasna_bytes.specs.Opening.{end_found}
 use Rattle.yasna_bytes.specs.Walk.{following}
-use Rattle.asn1show_walk.specs.Listing.{Line, Visits, Below, InString, octets, bits, ListsBytes, ListsOne}
+use Rattle.asn1show_walk.specs.Listing.{Line, VisitsLines, Below, InString, octets, bits, ListsBytes, ListsOne}
 use Rattle.asn1show_walk.specs.Reading.{line_of, counted_length, OpensItem, IsInString, in_octets, in_bits, IsFurther, EndsAt, ContentsVisited, ElementVisited, BelowVisited}
 use Rattle.asn1show_walk.specs.declared.listing.item.Item.{Item}
 use Rattle.asn1show_walk.specs.declared.listing.item.OpenedItem.{OpenedItem}
@@ -19,7 +19,7 @@ pub record Reached (context : Context) (p q : Place) (old new : Option (List Lin
   pub bytes : List ℕ
   pub lines : List Line
   pub further : IsFurther p bytes q
-  pub visits : Visits old new lines
+  pub visits : VisitsLines old new lines
   pub lists : ListsBytes context.levels context.mode context.in_string p.offset bytes lines
 
 pub reached_none : (context : Context) (p : Place) (a : Option (List Line)) → Reached context p p a a
@@ -72,7 +72,7 @@ if_ok (Err e) P Q f p = tt
 
 -- an element of definite length was visited, and the elements in it
 pub element_counted : (context : Context) (p q : Place) (o : OpenedItem) (a b d : Option (List Line)) (r : List ℕ) → OpensItem context p o →
-    end_found o.end ≡ definite_end r → Visits a b (line_of o.item ∷ []) → BelowVisited context o.item b d → q.left.now ≡ r →
+    end_found o.end ≡ definite_end r → VisitsLines a b (line_of o.item ∷ []) → BelowVisited context o.item b d → q.left.now ≡ r →
     q.offset + length r ≡ p.offset + length p.left.now → ElementVisited context p q a d
 element_counted context p q o a b d r x e h y i j =
     let opens = subst (λ z. OpensAt context.mode o.item.tag o.item.bit p.left.now o.item.contents.now z) e x.opens in
@@ -95,7 +95,7 @@ element_counted context p q o a b d r x e h y i j =
 
 -- an element of indefinite length was visited, and the elements in it
 pub element_uncounted : (context inner : Context) (p i q : Place) (o : OpenedItem) (a b d : Option (List Line)) → OpensItem context p o →
-    end_found o.end ≡ indefinite_end → Visits a b (line_of o.item ∷ []) → inner.mode ≡ context.mode → inner.levels + 1 ≡ context.levels →
+    end_found o.end ≡ indefinite_end → VisitsLines a b (line_of o.item ∷ []) → inner.mode ≡ context.mode → inner.levels + 1 ≡ context.levels →
     inner.in_string ≡ context.in_string → i.left.now ≡ o.item.contents.now → i.offset ≡ o.item.offset + o.item.header →
     ContentsVisited inner i false q b d → ElementVisited context p q a d
 element_uncounted context inner p i q o a b d x e h f g j k l y =

@@ -22,10 +22,10 @@ pub record Line : Type 0 where
   pub bit : PCBit
 
 -- the lines visited grow by these lines, where they are known
-abbrev pub Visits : Option (List Line) → Option (List Line) → List Line → Type 0
-Visits None new ls = ⊤
-Visits (Some xs) None ls = ⊥
-Visits (Some xs) (Some ys) ls = ys ≡ xs ++ ls
+abbrev pub VisitsLines : Option (List Line) → Option (List Line) → List Line → Type 0
+VisitsLines None new ls = ⊤
+VisitsLines (Some xs) None ls = ⊥
+VisitsLines (Some xs) (Some ys) ls = ys ≡ xs ++ ls
 
 -- b is an element with a header of h octets and the contents c, and len is its length where that is definite
 pub data IsHeaded (m : BERMode) (t : Tag) (bit : PCBit) (c b : List ℕ) (h : ℕ) (len : Option ℕ) : Type 0 where

@@ -15,7 +15,7 @@ use Rattle.yasna_bytes.specs.Prefix.{Takes, HasPrefix}
 use Rattle.yasna_bytes.specs.Opening.{end_found}
 use Rattle.yasna_bytes.specs.Walk.{following}
 use Rattle.asn1show_walk.specs.Errors.{IsMalformed}
-use Rattle.asn1show_walk.specs.Listing.{Line, Visits, Below, ListsBytes, ListsOne}
+use Rattle.asn1show_walk.specs.Listing.{Line, VisitsLines, Below, ListsBytes, ListsOne}
 use Rattle.asn1show_walk.specs.WellFormed.{IsWellFormed, AreElements, ClosesWell}
 use Rattle.asn1show_walk.specs.Stops.{HeaderMissing, StopsOne, StopsIn, StopsOnly}
 use Rattle.asn1show_walk.specs.declared.error.WalkError.{WalkError}
@@ -76,7 +76,7 @@ pub record ContentsVisited (context : Context) (p : Place) (is_counted : Bool) (
   pub end : Place
   pub further : IsFurther p bytes end
   pub ends : EndsAt is_counted end q
-  pub visits : Visits old new lines
+  pub visits : VisitsLines old new lines
   pub lists : ListsBytes context.levels context.mode context.in_string p.offset bytes lines
 
 -- the element at p was visited, and q is after it
@@ -85,13 +85,13 @@ pub record ElementVisited (context : Context) (p q : Place) (old new : Option (L
   pub lines : List Line
   pub some : 1 ≤ length bytes
   pub further : IsFurther p bytes q
-  pub visits : Visits old new lines
+  pub visits : VisitsLines old new lines
   pub lists : ListsOne context.levels context.mode context.in_string p.offset bytes lines
 
 -- the elements in the contents of an element were visited
 pub record BelowVisited (context : Context) (i : Item) (old new : Option (List Line)) : Type 0 where
   pub lines : List Line
-  pub visits : Visits old new lines
+  pub visits : VisitsLines old new lines
   pub levels : ℕ
   pub deeper : levels + 1 ≡ context.levels
   pub below : Below (λ v. ListsBytes levels context.mode v) context.in_string i.tag i.bit (i.offset + i.header) i.contents.now lines

@@ -2,7 +2,7 @@
 ghost use Rattle.std.specs.Prelude.{◌≡◌, ◌+◌, ◌-◌, ◌^◌, ◌<◌, ◌≤◌, ℕ, List, [], ◌∷◌, Option, length, false, true, IsTrue, IfOk, IfErr, OnOk, MatchOption, ⊤};
 ghost use Rattle.yasna_base.specs.Grammar.{max_depth};
 ghost use Rattle.yasna_base.specs.Raw.{IsRaw, IsJoining};
-ghost use Rattle.asn1show_walk.specs.Listing.{Line, Visits, ListsBytes};
+ghost use Rattle.asn1show_walk.specs.Listing.{Line, VisitsLines, ListsBytes};
 ghost use Rattle.asn1show_walk.specs.Errors.{WalkFails};
 ghost use Rattle.asn1show_walk.specs.WellFormed.{IsWellFormed, AreElements, EndsHere};
 ghost use Rattle.asn1show_walk.specs.Reading.{line_of, IsFurther, ItemAt, ContentsVisited, ElementVisited, BelowVisited, IsInString, EndsAt, ElementBefore, NoElement, NotClosed, NoneBelow, NoElements};
@@ -35,7 +35,7 @@ pub trait Visitor {
 
     /// Visits the next element. An `Err` ends the walk.
     fn visit(&mut self, item: &Item<'_>) -> Result<(), WalkError>
-        ensures reported { OnOk result (Visits (visited self.old) (visited self.new) (line_of item.now ∷ [])) }
+        ensures reported { OnOk result (VisitsLines (visited self.old) (visited self.new) (line_of item.now ∷ [])) }
         ensures rejected { IfErr result (λ f. rejects self.new f) };
 
     /// Whether the walk descends into a string. Then its contents have to be elements.
@@ -174,7 +174,7 @@ pub fn list_element<'a, L: Visitor>(
 /// is that of the first header that was expected. So for a visitor that rejects nothing it is `Ok` exactly if the input is such
 /// elements.
 pub fn list_input<L: Visitor>(input: &[u8], mode: BERMode, visitor: &mut L) -> Result<(), WalkError>
-    ensures lines { OnOk result ((ls : List Line) × Visits (L.visited visitor.old) (L.visited visitor.new) ls × ListsBytes max_depth mode false 0 input.now ls) }
+    ensures lines { OnOk result ((ls : List Line) × VisitsLines (L.visited visitor.old) (L.visited visitor.new) ls × ListsBytes max_depth mode false 0 input.now ls) }
     ensures raw { OnOk result (IsJoining (IsRaw mode max_depth) input.now) }
     ensures some { OnOk result (1 ≤ length input.now) }
     ensures elements { OnOk result (AreElements max_depth mode input.now) }
