@@ -44,6 +44,8 @@ ORDER = {
         "Your own types": "DefinedType Message Represents Encoded read_as Notation CanonicalNotation",
         "SEQUENCE and SET": "Sequence Parts Optional Default DefaultValue False Number Last SequenceOf SetOf PartsBy CanonicalParts"
         " WithFirst read_parts_with_first",
+        "Parts of your own notations": "write_optional prepend_optional optional_len write_unless_default prepend_unless_default unless_default_len"
+        " write_items prepend_items items_len",
         "CHOICE": "Choice Alternatives Either CanonicalAlternatives",
         "Explicit and implicit tags": "Explicit Implicit TagName Context Application",
         "Bounds": "Bounded Bound AtMost FromTo Exactly UpTo FromZero Size SizeAtMost NotEmpty",
@@ -60,6 +62,9 @@ ANCHORS = {
     "write_set": "write_set",
     "write_set_of": "write_set_of",
     "write_fields": "types-from-a-module",
+    "write_optional": "types-from-a-module",
+    "write_unless_default": "types-from-a-module",
+    "write_items": "types-from-a-module",
     "write_*": "simple-values",
     "decode_*": "decode_der",
     "encode_*": "encode_der",

@@ -1,6 +1,6 @@
 #!/bin/sh
 # Random input: reads bytes at random, and vectors that are changed, cut, joined and nested at random, by each call in each
-# mode, and holds the answers against each other (crates/yasna_vectors/src/fuzz.rt says how).
+# mode, and holds the answers against each other (ci/fuzz.py says how).
 #
 #   sh ci/fuzz.sh [COUNT [SEED]]     COUNT inputs, 100000 where it isn't said, made from SEED, else from the time
 #
@@ -18,4 +18,4 @@ trap 'rm -rf "$work"' EXIT
 . ci/common.sh
 build yasna_vectors
 echo "seed $seed, $count inputs"
-"$program" fuzz "$seed" "$count" < crates/yasna_vectors/stdin
+python3 ci/fuzz.py "$program" "$seed" "$count"

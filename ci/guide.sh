@@ -1,8 +1,8 @@
 #!/bin/sh
 # What the documents show. Each block of Rust or of antt in them, and in the comments on public items, is in one of the proved crates
-# examples_plain, examples_proved, x509 and ldap, line for line, but for its indentation as a whole. A module that a document shows is the
-# document's blocks, one after the other, and nothing else: so a reader who copies them has all that is needed. Each block of GUIDE.md and
-# NOTATION.md is a module. A page CALLING.md also quotes contracts and definitions, which are in the sources, line for line. Each mutant that
+# tests_yasna, examples_proved, x509, ldap and yasna_notation_types, line for line, but for its indentation as a whole. A module that a
+# document shows is the document's blocks, one after the other, and nothing else: so a reader who copies them has all that is needed. Each
+# block of GUIDE.md and NOTATION.md is a module. A page CALLING.md also quotes contracts and definitions, which are in the sources, line for line. Each mutant that
 # PROMISES.md names is an edit that the gate or ci/mutants.sh tries.
 # First the picture of the crates, which ARCHITECTURE.md shows, is compared with crates.txt.
 set -eu
@@ -148,11 +148,12 @@ compare_blocks() {
     fi
 }
 
-guide=crates/examples_plain/src
+guide=crates/tests_yasna/src/examples
 examples=crates/examples_proved/src
 types=crates/x509/src
 filters=crates/ldap/src
-files=$(find "$guide" "$examples" "$types" "$filters" crates/examples_proved/proofs -name '*.rt' -o -name '*.antt')
+more=crates/yasna_notation_types/src
+files=$(find "$guide" "$examples" "$types" "$filters" "$more" crates/examples_proved/proofs -name '*.rt' -o -name '*.antt')
 for page in README.md docs/GUIDE.md docs/NOTATION.md docs/IMPLEMENTING.md \
     crates/yasna/src/lib.rt crates/yasna/src/shapes.rt \
     crates/yasna_reader/src/state.rt crates/yasna_reader/src/set.rt \
@@ -162,15 +163,15 @@ for page in README.md docs/GUIDE.md docs/NOTATION.md docs/IMPLEMENTING.md \
 done
 
 is_whole README.md "$guide/first.rt"
-set -- $(find "$guide" -name '*.rt' ! -name lib.rt ! -name first.rt ! -name messages.rt | sort) "$examples/strings.rt" "$examples/exact.rt"
+set -- $(find "$guide" -name '*.rt' ! -name first.rt ! -name messages.rt | sort) "$examples/strings.rt" "$examples/exact.rt"
 is_whole docs/GUIDE.md "$@"
 rust_blocks docs/GUIDE.md $#
-set -- "$guide/messages.rt" "$types/time.rt" "$types/extension.rt" "$types/extensions.rt" "$filters/filter.rt" "$filters/filter_notation.rt"
+set -- "$guide/messages.rt" "$types/time.rt" "$types/extension.rt" "$types/extensions.rt" "$more/header.rt" "$filters/filter.rt" "$filters/filter_notation.rt"
 is_whole docs/NOTATION.md "$@"
 rust_blocks docs/NOTATION.md $#
 is_whole docs/IMPLEMENTING.md "$examples/by_tuple.rt" "$examples/by_closure.rt"
 
-library=$(for crate in yasna yasna_base yasna_times yasna_bytes yasna_reader yasna_writer yasna_notation; do
+library=$(for crate in yasna yasna_base yasna_times yasna_bytes yasna_reader yasna_writer yasna_notation yasna_notation_validity; do
     find "crates/$crate/src" "crates/$crate/specs" -name '*.rt' -o -name '*.antt'
 done)
 for page in crates/yasna/CALLING.md crates/yasna_notation/CALLING.md; do

@@ -34,7 +34,10 @@ impl BERDecodable for Sample {
         reader.read_sequence(
             |seq| -> ASN1Result<Sample>
                 requires { IsFresh (part_of seq.old) }
-                ensures { Step (Decodes false (EncodesUnsigned 32) (Any (EncodesUnsigned 32))) (λ count. Step (Decodes false EncodesBoolean (Any EncodesBoolean)) (λ last. Step (Decodes false (EncodesSigned w64) (Any (EncodesSigned w64))) (λ shift. Done (record { count = count; last = last; shift = shift })))) (part_of seq.old) result (part_of seq.new) }
+                ensures { Step (Decodes false (EncodesUnsigned 32) (Any (EncodesUnsigned 32))) (λ count.
+                    Step (Decodes false EncodesBoolean (Any EncodesBoolean)) (λ last.
+                    Step (Decodes false (EncodesSigned w64) (Any (EncodesSigned w64))) (λ shift.
+                    Done (record { count = count; last = last; shift = shift })))) (part_of seq.old) result (part_of seq.new) }
             {
                 let count = u32::decode_ber(seq.next())?;
                 let last = bool::decode_ber(seq.next())?;

@@ -13,7 +13,7 @@
 //! | `parts` | a type whose parts are omitted, tagged, chosen, and in any order |
 //! | `public_key`, `scrypt` | types of which a part may be omitted, read by closures |
 //! | `records` | types of three, five and seven parts, each read and written as a tuple |
-//! | `strings` | the section of docs/GUIDE.md on strings, with no contract; the others are in `examples_plain` |
+//! | `strings` | the section of docs/GUIDE.md on strings, with no contract; the others are in `tests_yasna` |
 //! | `third_party` | types that are read step by step: by typed reads, and with allocation |
 //! | `times` | times made of the parts of others, and of digits after the nanosecond |
 //! | `tree` | a type that refers to itself |

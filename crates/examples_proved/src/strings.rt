@@ -1,6 +1,6 @@
 //! Strings: a section of docs/GUIDE.md, which shows this module word for word.
 //!
-//! It is here and not in `examples_plain`, which has no mutants: that a text is written untested is one.
+//! It is here and not in `tests_yasna`, which has no mutants: that a text is written untested is one.
 
 use yasna::tags::{TAG_OCTETSTRING, TAG_PRINTABLESTRING};
 use yasna::{ASN1Result, BERReader, DERWriter, is_printable_text};

@@ -87,7 +87,10 @@ impl BERDecodable for Report {
         reader.read_sequence(
             |seq| -> ASN1Result<Report>
                 requires { IsFresh (part_of seq.old) }
-                ensures { Step (Decodes true EncodesString (Any EncodesText)) (λ name. Step (Decodes true EncodesVec (Any EncodesOctets)) (λ raw. Step (Decodes false (EncodesSigned w64) (Any (EncodesSigned w64))) (λ number. Done (record { name = name; raw = raw; number = number })))) (part_of seq.old) result (part_of seq.new) }
+                ensures { Step (Decodes true EncodesString (Any EncodesText)) (λ name.
+                    Step (Decodes true EncodesVec (Any EncodesOctets)) (λ raw.
+                    Step (Decodes false (EncodesSigned w64) (Any (EncodesSigned w64))) (λ number.
+                    Done (record { name = name; raw = raw; number = number })))) (part_of seq.old) result (part_of seq.new) }
             {
                 let name = String::decode_ber(seq.next())?;
                 let raw = Vec::<u8>::decode_ber(seq.next())?;

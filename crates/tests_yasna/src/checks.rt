@@ -3,10 +3,7 @@
 use std::alloc::Global;
 use std::hash::{BuildHasher, BuildHasherDefault, FoldHasher, Hash};
 use std::process::Abort;
-use yasna::{
-    ASN1Error, ASN1ErrorKind, ASN1Result, BERDecodable, BERMode, DERWriter, construct_der,
-    decode_ber_general,
-};
+use yasna::{ASN1Error, ASN1ErrorKind, ASN1Result, BERDecodable, BERMode, decode_ber_general};
 
 /// The bytes that these pairs of hexadecimal digits are, or `OutOfMemory` where the text is none, which no row wants.
 pub fn bytes_of(alloc: Global, text: &str) -> ASN1Result<Vec<u8>> {
@@ -96,19 +93,6 @@ pub fn results(outcome: ASN1Result<bool>, rejection: Option<ASN1ErrorKind>) -> b
             Some(kind) => is_kind(error.kind(), kind),
             None => false,
         },
-    }
-}
-
-/// Whether the encoding of these digits is written, or `Invalid` returned where there are none.
-pub fn writes<W>(alloc: Global, encoding: &str, write: W) -> ASN1Result<bool>
-where
-    W: FnOnce(DERWriter<'_>) -> ASN1Result<()>,
-    requires { W.IsAlwaysCallable write }
-{
-    let encoding = bytes_of(alloc, encoding)?;
-    match construct_der(alloc, write) {
-        Ok(written) => Ok(!encoding.is_empty() && written.as_slice() == encoding.as_slice()),
-        Err(error) => Ok(encoding.is_empty() && is_kind(error.kind(), ASN1ErrorKind::Invalid)),
     }
 }
 

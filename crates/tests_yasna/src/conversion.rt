@@ -1,168 +1,288 @@
-//! Elements by hand, as X.690 spells them: what is written for them, where the first doubt is, and where malformed ones are rejected.
+//! Elements by hand, as X.690 spells them: what is written for them, where the first ambiguities are, and where malformed ones are rejected.
 
 use crate::checks::{bytes_of, holds, is_kind, spelled};
 use asn1der_convert::ambiguity::Ambiguity;
 use asn1der_convert::conversion::convert;
-use asn1der_convert::error::ConvertError;
+use asn1der_convert::error::{ConvertError, Expected};
 use std::alloc::Global;
 use yasna::ASN1ErrorKind::{Eof, Invalid, StackOverflow};
 use yasna::{ASN1ErrorKind, ASN1Result};
 
-// Elements in BER, the same in DER, and the first doubts about a string in segments and about an order.
-static CONVERTED: [(&str, &str, [Option<usize>; 2]); 21] = [
+// Elements in BER, the same in DER, and the first ambiguity of each kind: segments, an implicit SET OF, the order of a SET.
+static CONVERTED: [(&str, &str, [Option<usize>; 3]); 49] = [
     // booleans
-    ("010101", "0101FF", [None, None]),
-    ("010100", "010100", [None, None]),
-    ("01810180", "0101FF", [None, None]),
+    ("010101", "0101FF", [None, None, None]),
+    ("010100", "010100", [None, None, None]),
+    ("01810180", "0101FF", [None, None, None]),
     // lengths in more bytes than it takes
-    ("02810105", "020105", [None, None]),
-    ("02840000000105", "020105", [None, None]),
+    ("02810105", "020105", [None, None, None]),
+    ("02840000000105", "020105", [None, None, None]),
     // a tag in the long form
-    ("1F1F8100", "1F1F00", [None, None]),
+    ("1F1F8100", "1F1F00", [None, None, None]),
     // indefinite lengths
-    ("30800000", "3000", [None, None]),
+    ("30800000", "3000", [None, None, None]),
     (
         "30803180010101000005000000",
         "300731030101FF0500",
-        [None, None],
+        [None, None, None],
     ),
     // several elements
-    ("050030800000010107", "050030000101FF", [None, None]),
+    ("050030800000010107", "050030000101FF", [None, None, None]),
     // octets in segments, and in segments of segments
-    ("24800401610401620000", "04026162", [None, None]),
-    ("24082403040161040162", "04026162", [None, None]),
-    ("2400", "0400", [None, None]),
+    ("24800401610401620000", "04026162", [None, None, None]),
+    ("24082403040161040162", "04026162", [None, None, None]),
+    ("2400", "0400", [None, None, None]),
     // bits in segments, and unused ones
-    ("2309030200FF030304ABCF", "030404FFABC0", [None, None]),
-    ("030204FF", "030204F0", [None, None]),
-    ("23800000", "030100", [None, None]),
+    ("2309030200FF030304ABCF", "030404FFABC0", [None, None, None]),
+    ("030204FF", "030204F0", [None, None, None]),
+    ("23800000", "030100", [None, None, None]),
     // a text, and a time
-    ("2C800401C30401A90000", "0C02C3A9", [None, None]),
-    ("37800402323604000000", "17023236", [None, None]),
+    ("2C800401C30401A90000", "0C02C3A9", [None, None, None]),
+    ("37800402323604000000", "17023236", [None, None, None]),
     // elements of a SET OF, which are ordered by what is written
     (
         "3109020103020101020102",
         "3109020101020102020103",
-        [None, None],
+        [None, None, None],
     ),
-    ("3180028101020201010000", "3106020101020102", [None, None]),
-    ("310704016224020400", "31050400040162", [None, None]),
+    (
+        "3180028101020201010000",
+        "3106020101020102",
+        [None, None, None],
+    ),
+    ("310704016224020400", "31050400040162", [None, None, None]),
     // elements in doubt
-    ("A0800401610000", "A003040161", [Some(0), None]),
+    ("A0800401610000", "A003040161", [Some(0), None, None]),
+    // lengths in more bytes than it takes, of 127 and of 128 zeros
+    (
+        "0488000000000000007F00000000000000000000000000000000000000000000000000000000000000000000000000000000000000000000000000000000000000000000000000000000000000000000000000000000000000000000000000000000000000000000000000000000000000000000000000000000000000000000000000000000000000",
+        "047F00000000000000000000000000000000000000000000000000000000000000000000000000000000000000000000000000000000000000000000000000000000000000000000000000000000000000000000000000000000000000000000000000000000000000000000000000000000000000000000000000000000000000",
+        [None, None, None],
+    ),
+    (
+        "048800000000000000800000000000000000000000000000000000000000000000000000000000000000000000000000000000000000000000000000000000000000000000000000000000000000000000000000000000000000000000000000000000000000000000000000000000000000000000000000000000000000000000000000000000000000",
+        "0481800000000000000000000000000000000000000000000000000000000000000000000000000000000000000000000000000000000000000000000000000000000000000000000000000000000000000000000000000000000000000000000000000000000000000000000000000000000000000000000000000000000000000000",
+        [None, None, None],
+    ),
+    // no segments
+    ("A0020500", "A0020500", [None, None, None]),
+    ("A003020102", "A003020102", [None, None, None]),
+    ("A006030100040161", "A006030100040161", [None, None, None]),
+    (
+        "A3123010300E0603551D0F0101FF040403020106",
+        "A3123010300E0603551D0F0101FF040403020106",
+        [None, None, None],
+    ),
+    // segments: an OCTET STRING, two of which one is in segments itself, a BIT STRING, and none
+    ("A003040161", "A003040161", [Some(0), None, None]),
+    (
+        "A1082403040161040162",
+        "A106040161040162",
+        [Some(0), None, None],
+    ),
+    ("6203030100", "6203030100", [Some(0), None, None]),
+    ("05006102E200", "05006102E200", [Some(4), None, None]),
+    // an implicit SET OF in order, and out of it
+    ("A006020101020102", "A006020101020102", [None, None, None]),
+    (
+        "A006020102020101",
+        "A006020102020101",
+        [None, Some(0), None],
+    ),
+    (
+        "3008A006020102020101",
+        "3008A006020102020101",
+        [None, Some(2), None],
+    ),
+    (
+        "A006040161030100",
+        "A006040161030100",
+        [None, Some(0), None],
+    ),
+    (
+        "A006040162040161",
+        "A006040162040161",
+        [Some(0), Some(0), None],
+    ),
+    // a SEQUENCE is neither
+    ("3006040162040161", "3006040162040161", [None, None, None]),
+    // a SET whose two orders are one, in order and out of it
+    ("31060101FF020101", "31060101FF020101", [None, None, None]),
+    ("31060201010101FF", "31060101FF020101", [None, None, None]),
+    (
+        "30083106020101010105",
+        "300831060101FF020101",
+        [None, None, None],
+    ),
+    ("3180A30081000000", "31048100A300", [Some(2), None, None]),
+    (
+        "3109020102040161020101",
+        "3109020101020102040161",
+        [None, None, None],
+    ),
+    // the elements of a SET, which are ordered by what is written
+    ("310704810161010105", "31060101FF040161", [None, None, None]),
+    // a SET in the order of tags, of octets, and of neither
+    ("3106A00205008100", "3106A00205008100", [None, None, None]),
+    ("31068100A0020500", "31068100A0020500", [None, None, None]),
+    (
+        "310882008100A0020500",
+        "310882008100A0020500",
+        [None, None, Some(0)],
+    ),
+    (
+        "300A310882008100A0020500",
+        "300A310882008100A0020500",
+        [None, None, Some(2)],
+    ),
+    // a type that is always primitive, and one that X.680 doesn't define
+    ("0E8100", "0E00", [None, None, None]),
+    ("3F2503040161", "3F2503040161", [None, None, None]),
 ];
 
 fn is_converted(
     alloc: Global,
     input: &str,
     output: &str,
-    [segments, order]: [Option<usize>; 2],
+    [segments, implicit, order]: [Option<usize>; 3],
 ) -> ASN1Result<bool> {
     let input = bytes_of(alloc, input)?;
     let output = bytes_of(alloc, output)?;
     match convert(alloc, &input) {
-        Ok(converted) => Ok(
-            converted.bytes.as_slice() == output.as_slice()
-                && converted.ambiguities.first(Ambiguity::Segments) == segments
-                && converted.ambiguities.first(Ambiguity::Order) == order
-                && converted.ambiguities.are_any() == (segments.is_some() || order.is_some()),
-        ),
+        Ok(converted) => {
+            let found = &converted.ambiguities;
+            let is_certain = segments.is_none() && implicit.is_none() && order.is_none();
+            Ok(
+                converted.bytes.as_slice() == output.as_slice()
+                    && found.first(Ambiguity::Segments) == segments
+                    && found.first(Ambiguity::ImplicitSetOf) == implicit
+                    && found.first(Ambiguity::Order) == order
+                    && found.are_any() != is_certain,
+            )
+        }
         Err(_) => Ok(false),
     }
 }
 
-// Whether the first elements become the second ones, and where nothing is in doubt these themselves.
+// Whether the first elements become the second ones, and where nothing is ambiguous these themselves.
 fn is_row(
     alloc: Global,
     input: &str,
     output: &str,
-    ambiguities: [Option<usize>; 2],
+    ambiguities: [Option<usize>; 3],
 ) -> ASN1Result<bool> {
     let is_so = is_converted(alloc, input, output, ambiguities)?;
-    let is_certain = matches!(ambiguities, [None, None]);
+    let is_certain = matches!(ambiguities, [None, None, None]);
     Ok(is_so && (!is_certain || is_converted(alloc, output, output, ambiguities)?))
 }
 
+// How elements are malformed: where, by which error, and what was expected of a segment.
+type Malformed = (usize, ASN1ErrorKind, Option<Expected>);
+
 // Malformed elements, and where and how they are.
-static MALFORMED: [(&str, usize, ASN1ErrorKind); 13] = [
+static MALFORMED: [(&str, usize, ASN1ErrorKind, Option<Expected>); 33] = [
     // cut off
-    ("", 0, Eof),
-    ("02", 0, Eof),
-    ("30030101", 0, Eof),
-    ("0500040261", 2, Eof),
+    ("", 0, Eof, None),
+    ("02", 0, Eof, None),
+    ("30030101", 0, Eof, None),
+    ("0500040261", 2, Eof, None),
     // no end of contents, one too many, and one that isn't
-    ("3080010101", 5, Eof),
-    ("0000", 0, Invalid),
-    ("30020000", 2, Invalid),
-    ("30800500000100", 4, Invalid),
+    ("3080010101", 5, Eof, None),
+    ("0000", 0, Invalid, None),
+    ("30020000", 2, Invalid, None),
+    ("30800500000100", 4, Invalid, None),
     // a primitive element of indefinite length
-    ("300402800000", 2, Invalid),
+    ("300402800000", 2, Invalid, None),
     // booleans that aren't, and bits
-    ("01020000", 0, Invalid),
-    ("05002103010101", 2, Invalid),
-    ("03020801", 0, Invalid),
+    ("01020000", 0, Invalid, None),
+    ("05002103010101", 2, Invalid, None),
     // a small tag number in the long form
-    ("300505001F1E00", 4, Invalid),
+    ("300505001F1E00", 4, Invalid, None),
+    // constructed, where the type is primitive
+    ("2103010100", 0, Invalid, None),
+    ("2203020105", 0, Invalid, None),
+    ("2D03040141", 0, Invalid, None),
+    ("2E03040141", 0, Invalid, None),
+    ("05002E800000", 2, Invalid, None),
+    ("3F1F03040141", 0, Invalid, None),
+    ("30063F2403040141", 2, Invalid, None),
+    // primitive, where the type is constructed
+    ("1000", 0, Invalid, None),
+    ("30021100", 2, Invalid, None),
+    ("1D00", 0, Invalid, None),
+    // a segment of another type, also within a segment
+    ("2403020105", 2, Invalid, Some(Expected::OctetString)),
+    ("05002403020105", 4, Invalid, Some(Expected::OctetString)),
+    ("24052403020105", 4, Invalid, Some(Expected::OctetString)),
+    ("2C030C0161", 2, Invalid, Some(Expected::OctetString)),
+    ("2303040161", 2, Invalid, Some(Expected::BitString)),
+    // segments that are cut off, and a malformed one
+    ("2480040161", 5, Eof, Some(Expected::OctetString)),
+    ("240404056162", 2, Eof, Some(Expected::OctetString)),
+    ("2303030108", 2, Invalid, Some(Expected::BitString)),
+    // unused bits in a segment that isn't the last
+    (
+        "2308030204F0030200AA",
+        2,
+        Invalid,
+        Some(Expected::NoUnusedBits),
+    ),
+    (
+        "230A2304030204F0030200AA",
+        2,
+        Invalid,
+        Some(Expected::NoUnusedBits),
+    ),
+    // a string in one piece
+    ("03020801", 0, Invalid, None),
 ];
 
-// Whether elements are malformed there and so, or where that is none are converted.
-fn is_malformed(
-    alloc: Global,
-    text: &str,
-    malformed: Option<(usize, ASN1ErrorKind)>,
-) -> ASN1Result<bool> {
+// Whether elements are malformed there and so, or converted where that is none.
+fn is_malformed(alloc: Global, text: &str, malformed: Option<Malformed>) -> ASN1Result<bool> {
     let bytes = bytes_of(alloc, text)?;
     match convert(alloc, &bytes) {
         Ok(_) => Ok(malformed.is_none()),
-        Err(ConvertError::Malformed { offset, kind, .. }) => match malformed {
-            Some((place, expected)) => Ok(offset == place && is_kind(kind, expected)),
+        Err(
+            ConvertError::Malformed {
+                offset,
+                kind,
+                expected,
+            },
+        ) => match malformed {
+            Some((place, error, wanted)) => {
+                Ok(offset == place && is_kind(kind, error) && expected == wanted)
+            }
             None => Ok(false),
         },
         Err(ConvertError::Memory) => Ok(false),
     }
 }
 
-// So many SEQUENCEs one in the other, of indefinite length, and where they are malformed, if they are.
-static DEEP: [(&str, usize, Option<(usize, ASN1ErrorKind)>); 2] = [
-    ("101 SEQUENCEs are taken", 101, None),
+// Names, headers of elements one in the other, of indefinite length, how many there are, and where they are malformed, if they are.
+static DEEP: [(&str, &str, usize, Option<Malformed>); 3] = [
+    ("101 SEQUENCEs are taken", "3080", 101, None),
     (
         "102 SEQUENCEs are rejected",
+        "3080",
         102,
-        Some((202, StackOverflow)),
+        Some((202, StackOverflow, None)),
+    ),
+    (
+        "102 strings are rejected",
+        "2480",
+        102,
+        Some((202, StackOverflow, Some(Expected::OctetString))),
     ),
 ];
 
 fn is_deep(
     alloc: Global,
+    header: &'static str,
     depth: usize,
-    malformed: Option<(usize, ASN1ErrorKind)>,
+    malformed: Option<Malformed>,
 ) -> ASN1Result<bool> {
-    let text = spelled(alloc, ["", "3080", "", "0000"], depth)?;
+    let text = spelled(alloc, ["", header, "", "0000"], depth)?;
     is_malformed(alloc, &text, malformed)
-}
-
-// A header before zeros, how many zeros, and the header that is written before them.
-static LONG: [([&str; 4], usize, [&str; 4]); 2] = [
-    (
-        ["0488000000000000007F", "00", "", ""],
-        127,
-        ["047F", "00", "", ""],
-    ),
-    (
-        ["04880000000000000080", "00", "", ""],
-        128,
-        ["048180", "00", "", ""],
-    ),
-];
-
-fn is_long(
-    alloc: Global,
-    read: [&'static str; 4],
-    zeros: usize,
-    written: [&'static str; 4],
-) -> ASN1Result<bool> {
-    let input = spelled(alloc, read, zeros)?;
-    let output = spelled(alloc, written, zeros)?;
-    is_converted(alloc, &input, &output, [None, None])
 }
 
 // What is written, the first ambiguities, and where malformed elements are rejected.
@@ -172,17 +292,10 @@ fn elements_in_ber_become_der_or_are_rejected(rt: HostRuntime) {
         holds(&rt, row.0, is_row(rt.alloc(), row.0, row.1, row.2));
     }
     for row in &MALFORMED {
-        holds(
-            &rt,
-            row.0,
-            is_malformed(rt.alloc(), row.0, Some((row.1, row.2))),
-        );
-    }
-    for row in &LONG {
-        let [header, ..] = row.0;
-        holds(&rt, header, is_long(rt.alloc(), row.0, row.1, row.2));
+        let malformed = Some((row.1, row.2, row.3));
+        holds(&rt, row.0, is_malformed(rt.alloc(), row.0, malformed));
     }
     for row in &DEEP {
-        holds(&rt, row.0, is_deep(rt.alloc(), row.1, row.2));
+        holds(&rt, row.0, is_deep(rt.alloc(), row.1, row.2, row.3));
     }
 }

@@ -1,31 +1,31 @@
 //! The pieces of README.md and docs/GUIDE.md, each once on bytes.
 
 use crate::checks::finds_none;
-use crate::pieces::Outcome::{Rejected, Same, Written};
-use crate::pieces::{Piece, Row, bytes_if, expected, first_other};
-use examples_plain::alternatives::{Id, read_id};
-use examples_plain::any::{read_algorithm, write_algorithm};
-use examples_plain::choice::{Name, read_name, write_name};
-use examples_plain::defaults::{read_constraints, write_constraints};
-use examples_plain::errors::reason;
-use examples_plain::first::{decode_report, encode_report};
-use examples_plain::implicit::{read_accuracy, write_accuracy};
-use examples_plain::lists::{highest, read_names, write_names};
-use examples_plain::located::table_located;
-use examples_plain::messages::{extension_from_ber, rewritten_extension};
-use examples_plain::numbers::{
+use crate::examples::alternatives::{Id, read_id};
+use crate::examples::any::{read_algorithm, write_algorithm};
+use crate::examples::choice::{Name, read_name, write_name};
+use crate::examples::defaults::{read_constraints, write_constraints};
+use crate::examples::errors::reason;
+use crate::examples::first::{decode_report, encode_report};
+use crate::examples::implicit::{read_accuracy, write_accuracy};
+use crate::examples::lists::{highest, read_names, write_names};
+use crate::examples::located::table_located;
+use crate::examples::messages::{extension_from_ber, rewritten_extension};
+use crate::examples::numbers::{
     Status, read_key, read_status, write_key, write_signature, write_status,
 };
-use examples_plain::optional::{read_person, write_person};
-use examples_plain::own_errors::{StoreError, entries_to_der, entry_of_der};
-use examples_plain::sequence::{point_from_ber, point_from_der, point_to_der};
-use examples_plain::set_of::{read_values, write_values, write_values_as_they_are};
-use examples_plain::sets::{read_setting, write_setting};
-use examples_plain::signed::read_signed;
-use examples_plain::sticky::number_or_zero;
-use examples_plain::tagged::{read_encrypted, write_encrypted};
-use examples_plain::times::{Time, read_time, time_of_text, write_time};
-use examples_plain::whole::{read_table, write_flag};
+use crate::examples::optional::{read_person, write_person};
+use crate::examples::own_errors::{StoreError, entries_to_der, entry_of_der};
+use crate::examples::sequence::{point_from_ber, point_from_der, point_to_der};
+use crate::examples::set_of::{read_values, write_values, write_values_as_they_are};
+use crate::examples::sets::{read_setting, write_setting};
+use crate::examples::signed::read_signed;
+use crate::examples::sticky::number_or_zero;
+use crate::examples::tagged::{read_encrypted, write_encrypted};
+use crate::examples::times::{Time, read_time, time_of_text, write_time};
+use crate::examples::whole::{read_table, write_flag};
+use crate::pieces::Outcome::{Rejected, Same, Written};
+use crate::pieces::{Piece, Row, bytes_if, expected, first_other};
 use examples_proved::{read_directory_string, read_ldap_string, reencoded, write_directory_string};
 use std::alloc::Global;
 use yasna::ASN1ErrorKind::{Eof, Extra, Invalid, StackOverflow};

@@ -1,4 +1,4 @@
-//! Tests of the public calls of `yasna`, of the code in `examples_plain` and `examples_proved`, and of what the programs do.
+//! Tests of the public calls of `yasna`, of the code in `examples` and `examples_proved`, and of what the programs do.
 //!
 //! They are a crate of their own, since a crate with tests is proved twice. Each has ample memory.
 //!
@@ -8,24 +8,22 @@
 //! | `buffer` | the bytes that a read took |
 //! | `at_end` | where contents end, and errors of reading callbacks |
 //! | `checks` | none: it holds what many of them check, and how they fail |
-//! | `conversion` | elements in BER turned into DER |
-//! | `converted` | elements that may be something else without a schema, and malformed segments |
+//! | `conversion` | elements in BER turned into DER, those that may be something else without a schema, and malformed ones |
 //! | `engine` | the program `yasna_tool` over memory, and over ends that fail |
 //! | `composed` | lists, tuples and borrowed values |
+//! | `examples` | none: it holds the pieces of code of README.md and docs/GUIDE.md |
 //! | `exact` | types that keep an element of any type as it came |
-//! | `guide` | the pieces of code of README.md and docs/GUIDE.md |
+//! | `guide` | these pieces, each once on bytes |
 //! | `known` | calls whose closures are known |
 //! | `lines` | the lines of the elements of any input |
 //! | `located` | where a parse failed |
 //! | `oid` | object identifiers |
 //! | `pieces` | none: it holds how rows of bytes are read and written again |
 //! | `records`, `scrypt`, `third_party` | types of one's own |
-//! | `sets` | sets, read and written by callbacks |
 //! | `shown` | the lines of malformed and unusual elements |
-//! | `set_writing` | the order of a SET's parts, and malformed ones |
 //! | `times` | both times |
 //! | `tree` | a type that refers to itself, and elements at 101 levels |
-//! | `writing` | long tags, exchanged writers, strings whose contents come in pieces |
+//! | `writing` | exchanged writers, discarded errors of parts |
 #![tactic(auto)]
 
 #[cfg(test)]
@@ -41,11 +39,11 @@ mod composed;
 #[cfg(test)]
 mod conversion;
 #[cfg(test)]
-mod converted;
-#[cfg(test)]
 mod engine;
 #[cfg(test)]
 mod exact;
+#[cfg(test)]
+mod examples;
 #[cfg(test)]
 mod guide;
 #[cfg(test)]
@@ -64,10 +62,6 @@ mod public_key;
 mod records;
 #[cfg(test)]
 mod scrypt;
-#[cfg(test)]
-mod set_writing;
-#[cfg(test)]
-mod sets;
 #[cfg(test)]
 mod shown;
 #[cfg(test)]

@@ -1,6 +1,7 @@
 //! The lines of `asn1show_lines`, diagnostics and rejections. The offsets, depths, lengths and tags of the key are those that `openssl asn1parse -i` prints of it.
 
-use crate::checks::{holds, spelled};
+use crate::checks::{finds_none, holds, spelled};
+use asn1show_lines::InputFormat::Hex;
 use asn1show_lines::{InputFormat, show};
 use asn1show_walk::{Context, Place, WalkError, is_one_element};
 use std::alloc::Global;
@@ -10,8 +11,8 @@ use yasna::{ASN1Result, BERMode};
 // What is wanted of an input.
 #[derive(Clone, Copy)]
 pub(crate) enum Expectation {
-    /// These lines, and that the input is taken whole.
-    Whole(&'static str),
+    /// These lines, and this error, or none where it says nothing.
+    Listed(&'static str, &'static str),
     /// This as the first line.
     Head(&'static str),
     /// This line after the first one, and after it these rules.
@@ -20,50 +21,66 @@ pub(crate) enum Expectation {
     Taken,
     /// That it is malformed, and this is said of it.
     Malformed(&'static str),
+    /// That it is taken whole, and its first element is said not to be in BER, since it is constructed.
+    Constructed,
 }
 
-use Expectation::{Head, Line, Malformed, Taken, Whole};
+use Expectation::{Constructed, Head, Line, Listed, Malformed, Taken};
 
 impl Expectation {
-    // Whether this was written, and the input taken whole where that is wanted.
-    fn is_written(self, text: &str, is_taken: bool) -> bool {
+    // Whether this was written, and this said of an error, which is of malformed input or not.
+    fn is_met(self, text: &str, said: &str, is_malformed: bool) -> bool {
         let mut rows = text.lines();
         let head = rows.next().unwrap_or("");
+        let element = rows.next().unwrap_or("");
         match self {
-            Whole(lines) => is_taken && text == lines,
+            Listed(lines, error) => text == lines && said == error,
             Head(first) => head == first,
             Line(line, rules) => {
-                let first = rows.next().unwrap_or("").trim_start();
-                let second = rows.next().unwrap_or("");
-                first.strip_prefix("0  ") == Some(line)
-                    && second.strip_prefix("rules: ") == Some(rules)
+                element.trim_start().strip_prefix("0  ") == Some(line)
+                    && rows.next().unwrap_or("").strip_prefix("rules: ") == Some(rules)
             }
-            Taken => is_taken,
-            Malformed(_) => false,
+            Taken => said.is_empty(),
+            Malformed(error) => is_malformed && said == error,
+            Constructed => {
+                said.is_empty()
+                    && element.contains(" -- not BER: constructed, where the type is primitive")
+                    && text.ends_with("rules: none\n")
+            }
         }
     }
 }
 
-pub(crate) fn is_shown(
+/// An input, its format where it isn't detected, the rules, and what is wanted of it.
+pub(crate) type Row = (&'static str, Option<InputFormat>, BERMode, Expectation);
+
+fn is_shown(
     alloc: Global,
-    mode: BERMode,
-    input_format: Option<InputFormat>,
     input: &str,
+    input_format: Option<InputFormat>,
+    mode: BERMode,
     expected: Expectation,
 ) -> ASN1Result<bool> {
     let mut output = Vec::new(alloc);
     let outcome = show(alloc, &mut output, mode, input_format, 16, input.as_bytes());
-    if let Malformed(said) = expected {
-        return match outcome {
-            Err(error) => Ok(
-                matches!(error, WalkError::Malformed { .. })
-                    && error.to_string(alloc)?.as_str() == said,
-            ),
-            Ok(()) => Ok(false),
-        };
-    }
     let text = std::str::from_utf8(output.as_slice()).unwrap_or("");
-    Ok(expected.is_written(text, outcome.is_ok()))
+    match outcome {
+        Ok(()) => Ok(expected.is_met(text, "", false)),
+        Err(error) => {
+            let is_malformed = matches!(error, WalkError::Malformed { .. });
+            Ok(expected.is_met(text, &error.to_string(alloc)?, is_malformed))
+        }
+    }
+}
+
+/// The first input that is shown otherwise.
+pub(crate) fn first_other(alloc: Global, rows: &[Row]) -> Option<&'static str> {
+    for row in rows {
+        if !matches!(is_shown(alloc, row.0, row.1, row.2, row.3), Ok(true)) {
+            return Some(row.0);
+        }
+    }
+    None
 }
 
 const KEY: &str = "A key:
@@ -99,43 +116,50 @@ rules: BER
 ";
 
 // Inputs whose encoding isn't given, the rules, and what is wanted of them.
-static LINES: [(&str, BERMode, Expectation); 24] = [
-    (KEY, Der, Whole(KEY_LINES)),
-    (NESTED, Ber, Whole(NESTED_LINES)),
-    ("30 00\n", Ber, Head("input: hexadecimal, 2 bytes")),
-    ("0\x00", Ber, Head("input: 2 bytes")),
+static LINES: [Row; 24] = [
+    (KEY, None, Der, Listed(KEY_LINES, "")),
+    (NESTED, None, Ber, Listed(NESTED_LINES, "")),
+    ("30 00\n", None, Ber, Head("input: hexadecimal, 2 bytes")),
+    ("0\x00", None, Ber, Head("input: 2 bytes")),
     (
         "\u{4}\u{14}\n-----BEGIN X-----\n",
+        None,
         Ber,
         Head("input: 21 bytes"),
     ),
     (
         "0101FF",
+        None,
         Ber,
         Line("2+1        BOOLEAN TRUE", "BER, DER, CER"),
     ),
     (
         "010101",
+        None,
         Ber,
         Line("2+1        BOOLEAN TRUE -- not DER: TRUE isn't FF", "BER"),
     ),
     (
         "0202FF7F",
+        None,
         Ber,
         Line("2+2        INTEGER -129", "BER, DER, CER"),
     ),
     (
         "0209010000000000000000",
+        None,
         Ber,
         Line("2+9        INTEGER 18446744073709551616", "BER, DER, CER"),
     ),
     (
         "0209FF0000000000000000",
+        None,
         Ber,
         Line("2+9        INTEGER -18446744073709551616", "BER, DER, CER"),
     ),
     (
         "0202007F",
+        None,
         Ber,
         Line(
             "2+2        INTEGER 127 -- not BER: a number in too many octets or none",
@@ -144,6 +168,7 @@ static LINES: [(&str, BERMode, Expectation); 24] = [
     ),
     (
         "028101 05",
+        None,
         Ber,
         Line(
             "3+1        INTEGER 5 -- not DER: the length isn't the shortest",
@@ -152,11 +177,13 @@ static LINES: [(&str, BERMode, Expectation); 24] = [
     ),
     (
         "0303 04 A5 F0",
+        None,
         Ber,
         Line("2+3        BIT STRING 'A5F0'H less 4 bits", "BER, DER, CER"),
     ),
     (
         "0302 04 A5",
+        None,
         Ber,
         Line(
             "2+2        BIT STRING 'A5'H less 4 bits -- not DER: unused bits aren't zeros",
@@ -165,6 +192,7 @@ static LINES: [(&str, BERMode, Expectation); 24] = [
     ),
     (
         "0603550403",
+        None,
         Ber,
         Line(
             "2+3        OBJECT IDENTIFIER 2.5.4.3 commonName",
@@ -173,6 +201,7 @@ static LINES: [(&str, BERMode, Expectation); 24] = [
     ),
     (
         "0C07 41 07 E2 80 AE 22 7F",
+        None,
         Ber,
         Line(
             "2+7        UTF8String \"A\\u{7}\\u{202E}\\\"\\u{7F}\"",
@@ -181,6 +210,7 @@ static LINES: [(&str, BERMode, Expectation); 24] = [
     ),
     (
         "1302 41 2A",
+        None,
         Ber,
         Line(
             "2+2        PrintableString \"A*\" -- not BER: a character that the type hasn't",
@@ -189,6 +219,7 @@ static LINES: [(&str, BERMode, Expectation); 24] = [
     ),
     (
         "1E04 0041 D800",
+        None,
         Ber,
         Line(
             "2+4        BMPString \"A\\u{D800}\" -- not BER: a character that the type hasn't",
@@ -197,6 +228,7 @@ static LINES: [(&str, BERMode, Expectation); 24] = [
     ),
     (
         "170B 38323031303231323030 5A",
+        None,
         Ber,
         Line(
             "2+11       UTCTime 1982-01-02T12:00:00Z -- not DER: the time isn't canonical",
@@ -205,6 +237,7 @@ static LINES: [(&str, BERMode, Expectation); 24] = [
     ),
     (
         "1813 31393835313130363231303832392E3732345A",
+        None,
         Ber,
         Line(
             "2+19       GeneralizedTime 1985-11-06T21:08:29.724Z",
@@ -213,87 +246,99 @@ static LINES: [(&str, BERMode, Expectation); 24] = [
     ),
     (
         "180E 3139383531313036323130383239",
+        None,
         Ber,
         Line(
             "2+14       GeneralizedTime 1985-11-06T21:08:29 -- not DER: local time",
             "BER",
         ),
     ),
-    ("0500", Ber, Line("2+0        NULL", "BER, DER, CER")),
+    ("0500", None, Ber, Line("2+0        NULL", "BER, DER, CER")),
     (
         "8505 0102030405",
+        None,
         Ber,
         Line("2+5        [5] '0102030405'H", "BER, DER, CER"),
     ),
-    ("3000", Ber, Line("2+0        SEQUENCE", "BER, DER")),
+    ("3000", None, Ber, Line("2+0        SEQUENCE", "BER, DER")),
 ];
 
 #[test]
 fn each_element_has_its_line(rt: HostRuntime) {
-    for row in &LINES {
-        holds(&rt, row.0, is_shown(rt.alloc(), row.1, None, row.0, row.2));
-    }
+    finds_none(&rt, first_other(rt.alloc(), &LINES));
 }
 
 // Malformed input in hexadecimal, and what is said of it.
-static MALFORMED: [(&str, BERMode, Expectation); 12] = [
+static MALFORMED: [Row; 12] = [
     (
         "3003 020101 02",
+        Some(Hex),
         Ber,
         Malformed("offset 5: Eof: expected length octets"),
     ),
     (
         "3005 020101",
+        Some(Hex),
         Ber,
         Malformed("offset 0: Eof: expected 5 octets of contents, of which 3 are there"),
     ),
     (
         "3080 020101",
+        Some(Hex),
         Ber,
         Malformed("offset 5: Eof: expected an element"),
     ),
     (
         "3002 0000",
+        Some(Hex),
         Ber,
         Malformed("offset 2: Invalid: expected an element, no end of contents"),
     ),
     (
         "1F 1E 00",
+        Some(Hex),
         Ber,
         Malformed("offset 0: Invalid: expected a tag number of 31 or more in the fewest octets"),
     ),
     (
         "3080 0000",
+        Some(Hex),
         Der,
         Malformed("offset 0: Invalid: expected a length that is counted"),
     ),
     (
         "028101 05",
+        Some(Hex),
         Der,
         Malformed("offset 0: Invalid: expected a length in the fewest octets"),
     ),
     (
         "3000",
+        Some(Hex),
         Cer,
         Malformed("offset 0: Invalid: expected a constructed element of indefinite length"),
     ),
     (
         "030",
+        Some(Hex),
         Ber,
         Malformed("offset 3: Invalid: expected one more hexadecimal digit"),
     ),
     (
         "05 0G\n0\n",
+        Some(Hex),
         Ber,
         Malformed("offset 4: Invalid: expected a hexadecimal digit"),
     ),
     (
         "\u{FEFF}050G",
+        Some(Hex),
         Ber,
         Malformed("offset 6: Invalid: expected a hexadecimal digit"),
     ),
     (
         "\u{FEFF}050",
+        Some(Hex),
         Ber,
         Malformed("offset 6: Invalid: expected one more hexadecimal digit"),
     ),
@@ -304,14 +349,14 @@ static MALFORMED: [(&str, BERMode, Expectation); 12] = [
 static SPELLED: [(&str, Option<InputFormat>, [&str; 4], usize, Expectation); 5] = [
     (
         "101 elements are taken",
-        Some(InputFormat::Hex),
+        Some(Hex),
         ["", "3080", "0500", "0000"],
         100,
         Taken,
     ),
     (
         "102 elements are rejected",
-        Some(InputFormat::Hex),
+        Some(Hex),
         ["", "3080", "30803080", ""],
         100,
         Malformed("offset 202: StackOverflow: expected at most 101 levels of elements"),
@@ -357,22 +402,22 @@ fn is_spelled(
     expected: Expectation,
 ) -> ASN1Result<bool> {
     let input = spelled(alloc, texts, times)?;
-    is_shown(alloc, Ber, input_format, &input, expected)
+    is_shown(alloc, &input, input_format, Ber, expected)
+}
+
+fn first_spelled_otherwise(alloc: Global) -> Option<&'static str> {
+    for row in &SPELLED {
+        if !matches!(is_spelled(alloc, row.1, row.2, row.3, row.4), Ok(true)) {
+            return Some(row.0);
+        }
+    }
+    None
 }
 
 #[test]
 fn malformed_input_is_rejected_at_its_offset(rt: HostRuntime) {
-    for row in &MALFORMED {
-        let is_so = is_shown(rt.alloc(), row.1, Some(InputFormat::Hex), row.0, row.2);
-        holds(&rt, row.0, is_so);
-    }
-    for row in &SPELLED {
-        holds(
-            &rt,
-            row.0,
-            is_spelled(rt.alloc(), row.1, row.2, row.3, row.4),
-        );
-    }
+    finds_none(&rt, first_other(rt.alloc(), &MALFORMED));
+    finds_none(&rt, first_spelled_otherwise(rt.alloc()));
 }
 
 // Contents of a string, and whether they are one element.

@@ -1,9 +1,9 @@
 //! SubjectPublicKeyInfo with its AlgorithmIdentifier (RFC 5280, 4.1), read from and written to real bytes by closures.
 
 use crate::checks::finds_none;
+use crate::examples::any::{Algorithm, read_algorithm, write_algorithm};
 use crate::pieces::Outcome::Same;
 use crate::pieces::{Piece, Row, expected, first_other};
-use examples_plain::any::{Algorithm, read_algorithm, write_algorithm};
 use std::alloc::Global;
 use yasna::BERMode::Der;
 use yasna::{

@@ -9,7 +9,7 @@ use crate::parts::{Frame, Group, Piece};
 use crate::reads::{Body, Read, Then};
 use crate::steps::{Ask, Choice, Step};
 use crate::strings::Class;
-use yasna::tags::{TAG_BOOLEAN, TAG_INTEGER, TAG_SEQUENCE};
+use yasna::tags::{TAG_BOOLEAN, TAG_INTEGER, TAG_NULL, TAG_SEQUENCE};
 use yasna::{ASN1ErrorKind, Tag, TagClass};
 
 const INTEGER: Piece = Piece(Frame::Plain, ElementType::I64);
@@ -26,6 +26,11 @@ const WITHIN: Piece = Piece(Frame::Plain, ElementType::Within);
 pub const RAW: Piece = Piece(Frame::Plain, ElementType::Raw);
 
 const IDLE: Piece = Piece(Frame::Plain, ElementType::Idle);
+
+const WITHOUT_MEMORY: Piece = Piece(
+    Frame::Plain,
+    ElementType::Rejected(ASN1ErrorKind::OutOfMemory),
+);
 
 /// `bytes`.
 pub const BYTES: Read = Read(Then::Shown, Body::Alone(OCTETS));
@@ -123,7 +128,7 @@ pub static KINDS: [(&str, ElementType); 26] = [
 ];
 
 /// Reads of several values, or of none.
-pub static CALLS: [(&str, Read); 60] = [
+pub static CALLS: [(&str, Read); 67] = [
     // SEQUENCE, read and written part by part
     (
         "seq_ib",
@@ -188,13 +193,7 @@ pub static CALLS: [(&str, Read); 60] = [
         Read(
             Then::Shown,
             Body::Sequence(&[
-                Step(
-                    Ask::OptionalDiscarded,
-                    Piece(
-                        Frame::Plain,
-                        ElementType::Rejected(ASN1ErrorKind::OutOfMemory),
-                    ),
-                ),
+                Step(Ask::OptionalDiscarded, WITHOUT_MEMORY),
                 Step(Ask::Next, INTEGER),
             ]),
         ),
@@ -286,8 +285,8 @@ pub static CALLS: [(&str, Read); 60] = [
         Read(
             Then::Shown,
             Body::Set(&[
-                Choice::Next(TAG_INTEGER, INTEGER),
-                Choice::Next(TAG_BOOLEAN, BOOLEAN),
+                Choice::Next(&[TAG_INTEGER], INTEGER),
+                Choice::Next(&[TAG_BOOLEAN], BOOLEAN),
             ]),
         ),
     ),
@@ -296,8 +295,8 @@ pub static CALLS: [(&str, Read); 60] = [
         Read(
             Then::Shown,
             Body::Set(&[
-                Choice::Next(TAG_INTEGER, INTEGER),
-                Choice::Next(TAG_INTEGER, INTEGER),
+                Choice::Next(&[TAG_INTEGER], INTEGER),
+                Choice::Next(&[TAG_INTEGER], INTEGER),
             ]),
         ),
     ),
@@ -306,10 +305,16 @@ pub static CALLS: [(&str, Read); 60] = [
         Read(
             Then::Shown,
             Body::Set(&[
-                Choice::Next(C28, Piece(Frame::Implicit(C28), ElementType::I64)),
-                Choice::Next(C345678, Piece(Frame::Explicit(C345678), ElementType::Bytes)),
-                Choice::Next(C27, Piece(Frame::Explicit(C27), ElementType::I64)),
-                Choice::Next(C345677, Piece(Frame::Explicit(C345677), ElementType::Bytes)),
+                Choice::Next(&[C28], Piece(Frame::Implicit(C28), ElementType::I64)),
+                Choice::Next(
+                    &[C345678],
+                    Piece(Frame::Explicit(C345678), ElementType::Bytes),
+                ),
+                Choice::Next(&[C27], Piece(Frame::Explicit(C27), ElementType::I64)),
+                Choice::Next(
+                    &[C345677],
+                    Piece(Frame::Explicit(C345677), ElementType::Bytes),
+                ),
             ]),
         ),
     ),
@@ -317,20 +322,23 @@ pub static CALLS: [(&str, Read); 60] = [
         "set_seqel",
         Read(
             Then::Shown,
-            Body::Set(&[Choice::Next(TAG_SEQUENCE, Piece(Frame::Plain, ElementType::Nests))]),
+            Body::Set(&[Choice::Next(&[TAG_SEQUENCE], Piece(Frame::Plain, ElementType::Nests))]),
         ),
     ),
     (
         "set_der",
-        Read(Then::Shown, Body::Set(&[Choice::Next(TAG_SEQUENCE, RAW)])),
+        Read(
+            Then::Shown,
+            Body::Set(&[Choice::Next(&[TAG_SEQUENCE], RAW)]),
+        ),
     ),
     (
         "set_again",
         Read(
             Then::Shown,
             Body::Set(&[
-                Choice::AskedInVain(TAG_BOOLEAN),
-                Choice::Next(TAG_INTEGER, INTEGER),
+                Choice::AskedInVain(&[TAG_BOOLEAN]),
+                Choice::Next(&[TAG_INTEGER], INTEGER),
             ]),
         ),
     ),
@@ -339,7 +347,61 @@ pub static CALLS: [(&str, Read); 60] = [
         "set_opt",
         Read(
             Then::Shown,
-            Body::Set(&[Choice::Optional(TAG_INTEGER, INTEGER), Choice::False]),
+            Body::Set(&[
+                Choice::Optional(&[TAG_INTEGER], INTEGER),
+                Choice::Default(false),
+            ]),
+        ),
+    ),
+    (
+        "set_bi",
+        Read(
+            Then::Shown,
+            Body::Set(&[
+                Choice::Next(&[TAG_BOOLEAN], BOOLEAN),
+                Choice::Next(&[TAG_NULL, TAG_INTEGER], INTEGER),
+            ]),
+        ),
+    ),
+    (
+        "set_def",
+        Read(
+            Then::Shown,
+            Body::Set(&[
+                Choice::Optional(&[TAG_INTEGER], INTEGER),
+                Choice::Default(true),
+            ]),
+        ),
+    ),
+    (
+        "set_past",
+        Read(
+            Then::Shown,
+            Body::Set(&[
+                Choice::DefaultDiscarded(true),
+                Choice::Next(&[TAG_INTEGER], INTEGER),
+            ]),
+        ),
+    ),
+    (
+        "set_other",
+        Read(
+            Then::Shown,
+            Body::Set(&[Choice::Optional(&[TAG_INTEGER], BOOLEAN)]),
+        ),
+    ),
+    (
+        "set_memory",
+        Read(
+            Then::Shown,
+            Body::Set(&[Choice::Optional(&[TAG_INTEGER], WITHOUT_MEMORY)]),
+        ),
+    ),
+    (
+        "swallow_set",
+        Read(
+            Then::Discarded,
+            Body::Set(&[Choice::OptionalDiscarded(&[TAG_INTEGER], WITHOUT_MEMORY)]),
         ),
     ),
     ("set_any", Read(Then::Shown, Body::Set(&[Choice::Any]))),
@@ -356,6 +418,13 @@ pub static CALLS: [(&str, Read); 60] = [
         Read(
             Then::Shown,
             Body::Alone(Piece(Frame::Explicit(C31), ElementType::Null)),
+        ),
+    ),
+    (
+        "tag345678_bytes",
+        Read(
+            Then::Shown,
+            Body::Alone(Piece(Frame::Explicit(C345678), ElementType::Bytes)),
         ),
     ),
     (
@@ -440,13 +509,13 @@ pub static CALLS: [(&str, Read); 60] = [
     ),
     (
         "set_drop",
-        Read(Then::Null, Body::Set(&[Choice::Asked(TAG_INTEGER)])),
+        Read(Then::Null, Body::Set(&[Choice::Asked(&[TAG_INTEGER])])),
     ),
     (
         "set_optidle",
         Read(
             Then::Last,
-            Body::Set(&[Choice::Optional(TAG_INTEGER, IDLE)]),
+            Body::Set(&[Choice::Optional(&[TAG_INTEGER], IDLE)]),
         ),
     ),
     // whose callbacks throw errors away, or make them

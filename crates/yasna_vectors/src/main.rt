@@ -27,7 +27,6 @@
 //! | `run` | all lines, one after the other |
 //! | `hostile` | their bytes, cut and with other lengths |
 //! | `memory` | lines of which a request for memory fails |
-//! | `fuzz`, `mutation`, `random` | calls on random input, and how it is made |
 //! | `text` | results as text |
 //! | `outcome` | which family a call belongs to |
 //! | `calls` | the calls that read, by their names |
@@ -49,7 +48,6 @@
 
 mod calls;
 mod encodings;
-mod fuzz;
 mod hostile;
 mod kind;
 mod leaf;
@@ -58,13 +56,11 @@ mod line;
 mod many;
 mod memory;
 mod mode;
-mod mutation;
 mod names;
 mod nest;
 mod oid;
 mod outcome;
 mod parts;
-mod random;
 mod reading;
 mod reads;
 mod rejecting_closures;
@@ -87,7 +83,7 @@ use std::process::ExitCode;
 use std::{env, io};
 use task::Task;
 
-const USAGE: &str = "usage: yasna_vectors [lines|answer|cut|length|memory|fuzz SEED COUNT]";
+const USAGE: &str = "usage: yasna_vectors [lines|answer|cut|length|memory]";
 
 fn main(rt: HostRuntime) -> ExitCode {
     match verdict(&rt) {
@@ -122,8 +118,10 @@ fn asked(rt: &HostRuntime, alloc: Global) -> io::Result<Option<Task>> {
     Ok(Task::parse(words.as_slice()))
 }
 
-// Does a task on standard input.
+// Does a task on standard input, and prints what came of it.
 fn perform(rt: &HostRuntime, alloc: Global, task: Task) -> io::Result<Verdict> {
     let input = io::read_to_string(alloc, rt.reader())?;
-    task.run(rt, alloc, input.as_str())
+    let report = task.run(alloc, input.as_str())?;
+    rt.print(report.text.as_str())?;
+    Ok(report.verdict)
 }

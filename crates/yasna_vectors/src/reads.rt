@@ -178,14 +178,19 @@ fn parts_of(
     Some(Ok(parts))
 }
 
-/// The elements that a text is, with commas between them; `-` alone is none, and among others an empty one.
+/// The elements that a text is, with commas between them; `-` alone is none, and among others an empty one. `none` is a part that isn't
+/// written.
 pub fn raw_parts(alloc: Global, text: &str) -> Option<Result<Vec<Part>, AllocError>> {
     let mut parts = Vec::new(alloc);
     if text == "-" {
         return Some(Ok(parts));
     }
     for element in text.split(',') {
-        if let Err(out_of_memory) = append_made(&mut parts, RAW.value(alloc, element)?) {
+        let part = match element {
+            "none" => Ok(Part::plain(Leaf::Absent)),
+            _ => RAW.value(alloc, element)?,
+        };
+        if let Err(out_of_memory) = append_made(&mut parts, part) {
             return Some(Err(out_of_memory));
         }
     }

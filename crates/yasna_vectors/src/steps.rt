@@ -13,16 +13,18 @@
 //!
 //! | Step in a SET | Reads |
 //! |---|---|
-//! | `Next` | next with this tag |
-//! | `Asked` | nothing after next with this tag |
+//! | `Next` | next with these tags |
+//! | `Asked` | nothing after next with these tags |
 //! | `AskedInVain` | the same, whatever next returns |
-//! | `Optional` | read_optional with this tag |
-//! | `False` | read_default of a BOOLEAN that is false where there is none; false is shown and not written |
+//! | `Optional` | read_optional with these tags |
+//! | `OptionalDiscarded` | read_optional, discarded |
+//! | `Default` | read_default of a BOOLEAN that has this value where there is none; the default is shown and not written |
+//! | `DefaultDiscarded` | read_default, discarded |
 //! | `Any` | each element as it is, by next with the tags of each class that are numbered 0 to 199, as long as it gives one |
 
 use crate::calls::RAW;
 use crate::leaf::Leaf;
-use crate::parts::{Part, Piece, append};
+use crate::parts::{Frame, Part, Piece, append};
 use std::alloc::Global;
 use yasna::tags::TAG_BOOLEAN;
 use yasna::{
@@ -49,11 +51,13 @@ pub struct Step(pub Ask, pub Piece);
 /// A step in a SET.
 #[derive(Clone, Copy)]
 pub enum Choice {
-    Next(Tag, Piece),
-    Asked(Tag),
-    AskedInVain(Tag),
-    Optional(Tag, Piece),
-    False,
+    Next(&'static [Tag], Piece),
+    Asked(&'static [Tag]),
+    AskedInVain(&'static [Tag]),
+    Optional(&'static [Tag], Piece),
+    OptionalDiscarded(&'static [Tag], Piece),
+    Default(bool),
+    DefaultDiscarded(bool),
     Any,
 }
 
@@ -178,32 +182,44 @@ impl Choice {
     // Takes the step: the element that is shown, if any is.
     fn read(self, set: &mut BERReaderSet) -> ASN1Result<Option<Part>> {
         match self {
-            Choice::Next(tag, piece) => Ok(Some(piece.read(set.next(&[tag])?)?)),
-            Choice::Asked(tag) => {
-                set.next(&[tag])?;
+            Choice::Next(tags, piece) => Ok(Some(piece.read(set.next(tags)?)?)),
+            Choice::Asked(tags) => {
+                set.next(tags)?;
                 Ok(None)
             }
-            Choice::AskedInVain(tag) => {
-                let _ = set.next(&[tag]);
+            Choice::AskedInVain(tags) => {
+                let _ = set.next(tags);
                 Ok(None)
             }
-            Choice::Optional(tag, piece) => {
-                Ok(shown(set.read_optional(&[tag], |part| piece.read(part))?))
+            Choice::Optional(tags, piece) => read_element(tags, piece, set),
+            Choice::OptionalDiscarded(tags, piece) => {
+                let _ = read_element(tags, piece, set);
+                Ok(None)
             }
-            Choice::False => Ok(Some(read_false(set)?)),
+            Choice::Default(default) => Ok(Some(read_flag(default, set)?)),
+            Choice::DefaultDiscarded(default) => {
+                let _ = read_flag(default, set);
+                Ok(None)
+            }
             Choice::Any => Ok(None),
         }
     }
 }
 
-// Reads a BOOLEAN, false where there is none.
-fn read_false(set: &mut BERReaderSet) -> ASN1Result<Part> {
-    Ok(
-        match set.read_default(&[TAG_BOOLEAN], false, read_boolean)? {
-            true => Part::plain(Leaf::Bool(true)),
-            false => Part::unwritten(Leaf::Bool(false)),
-        },
-    )
+// Reads an element that may be absent.
+fn read_element(tags: &[Tag], piece: Piece, set: &mut BERReaderSet) -> ASN1Result<Option<Part>> {
+    Ok(shown(set.read_optional(tags, |part| piece.read(part))?))
+}
+
+// Reads a BOOLEAN, which is the default where there is none.
+fn read_flag(default: bool, set: &mut BERReaderSet) -> ASN1Result<Part> {
+    let flag = set.read_default(&[TAG_BOOLEAN], default, read_boolean)?;
+    let frame = if flag == default {
+        Frame::Unwritten
+    } else {
+        Frame::Plain
+    };
+    Ok(Part::new(frame, Leaf::Bool(flag)))
 }
 
 // Reads a BOOLEAN.

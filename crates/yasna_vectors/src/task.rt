@@ -6,13 +6,12 @@
 //! | `lines`, `cut`, `length` | one of these alone |
 //! | `answer` | lines with no answer are returned |
 //! | `memory` | they are run where a request for memory is refused |
-//! | `fuzz SEED COUNT` | so many inputs are made of them at random |
 
 use crate::hostile::{Group, check_group};
+use crate::memory::run_lines;
+use crate::names::named;
 use crate::run::{Report, Verdict, check_lines, outcome_lines};
-use crate::{fuzz, memory};
 use std::alloc::{AllocError, Global};
-use std::io;
 
 /// A task of the program.
 #[derive(Clone, Copy)]
@@ -22,50 +21,36 @@ pub enum Task {
     Outcomes,
     Group(Group),
     Memory,
-    Random { seed: u64, count: u64 },
 }
+
+// The tasks by their names, which take no more words.
+static TASKS: [(&str, Task); 5] = [
+    ("lines", Task::Lines),
+    ("answer", Task::Outcomes),
+    ("cut", Task::Group(Group::Cut)),
+    ("length", Task::Group(Group::Length)),
+    ("memory", Task::Memory),
+];
 
 impl Task {
     /// The task that these words name.
     pub fn parse(words: &[String]) -> Option<Task> {
-        Some(match words {
-            [] => Task::All,
-            [word] => Task::named(word.as_str())?,
-            [word, seed, count] if word.as_str() == "fuzz" => Task::Random {
-                seed: seed.as_str().parse().ok()?,
-                count: count.as_str().parse().ok()?,
-            },
-            _ => return None,
-        })
-    }
-
-    // The task of this name, which takes no more words.
-    fn named(name: &str) -> Option<Task> {
-        match name {
-            "lines" => Some(Task::Lines),
-            "answer" => Some(Task::Outcomes),
-            "cut" => Some(Task::Group(Group::Cut)),
-            "length" => Some(Task::Group(Group::Length)),
-            "memory" => Some(Task::Memory),
+        match words {
+            [] => Some(Task::All),
+            [word] => named(&TASKS, word.as_str()),
             _ => None,
         }
     }
 
-    /// Does it on these lines, and prints what came of it.
-    pub fn run(self, rt: &impl Print, alloc: Global, input: &str) -> io::Result<Verdict> {
-        let made = match self {
+    /// Does it on these lines: what came of it.
+    pub fn run(self, alloc: Global, input: &str) -> Result<Report, AllocError> {
+        match self {
             Task::All => run_all(alloc, input),
             Task::Lines => check_lines(alloc, input),
             Task::Outcomes => outcome_lines(alloc, input),
             Task::Group(group) => check_group(alloc, group, input),
-            Task::Memory => memory::run_lines(alloc, input),
-            Task::Random { seed, count } => {
-                return fuzz::check_random(rt, alloc, seed, count, input);
-            }
-        };
-        let report = made?;
-        rt.print(report.text.as_str())?;
-        Ok(report.verdict)
+            Task::Memory => run_lines(alloc, input),
+        }
     }
 }
 

@@ -11,8 +11,8 @@
 //!
 //! | NAME | Body |
 //! |---|---|
-//! | `setof` | write_set_of the raw elements that ARG says, with commas between them, each by write_der |
-//! | `set` | write_set of the raw elements that ARG says, with commas between them, each by write_der |
+//! | `setof` | write_set_of the raw elements that ARG says, with commas between them, each by write_der; `none` is a part that isn't written |
+//! | `set` | write_set of such elements |
 //! | `nest` | as many sequences one in the other as ARG says, around the INTEGER 10 |
 //! | `nothing` | no call; Ok |
 //! | `rejected` | write_sequence of write_i64, whose closure then returns Err(Invalid) |
