@@ -81,19 +81,17 @@ pub fn tagged_list(numbers: &[i64]) -> &'static [u8] {
         writer.write_sequence(|seq| {
             for number in numbers {
                 seq.next().write_tagged(Tag::context(0), |inner| {
-                    inner.write_tagged_implicit(Tag::context(1), |writer| {
-                        writer.write_i64(*number)
-                    })
+                    inner.write_tagged_implicit(Tag::context(1), |writer| writer.write_i64(*number))
                 })
             }
         })
     }))
 }
 
-/// A SEQUENCE of pairs.
-pub fn pair_list() -> &'static [u8] {
+/// A SEQUENCE of so many pairs.
+pub fn pair_list(count: u32) -> &'static [u8] {
     kept(construct_der(|writer| {
-        writer.write_sequence(|seq| write_pairs(seq, PAIRS))
+        writer.write_sequence(|seq| write_pairs(seq, count))
     }))
 }
 

@@ -2,6 +2,7 @@
 //!
 //! It prints a table: a row a case, a column a contestant, with the median time of a call.
 
+mod asn1_certificates;
 mod by_hand;
 mod certificates;
 mod inputs;

@@ -2,9 +2,10 @@
 //!
 //! The certificates are the first of those that the machine trusts, where it has such a list.
 
+use crate::asn1_certificates;
 use crate::inputs::{kept, mixed, REFUSED};
 use crate::measure::Case;
-use crate::measure::Contestant::{Port, Upstream};
+use crate::measure::Contestant::{Asn1, Port, Upstream};
 use crate::port;
 use std::fs;
 use std::hint::black_box;
@@ -63,6 +64,13 @@ fn write(bytes: &'static [u8]) -> Case {
             read_list(bytes).map_or(REFUSED, |certificates| {
                 (0..black_box(TIMES))
                     .map(|_| black_box(write_list(black_box(&certificates))).len() as u64)
+                    .sum()
+            })
+        })
+        .with(Asn1, move || {
+            asn1_certificates::read(bytes).map_or(REFUSED, |certificates| {
+                (0..black_box(TIMES))
+                    .map(|_| asn1_certificates::write(black_box(certificates)).len() as u64)
                     .sum()
             })
         })

@@ -28,10 +28,10 @@ mod linked {
             count: usize,
             der: bool,
         ) -> u64;
-        pub fn yasna_write_identifiers(components: *const u64, length: usize, count: usize)
-            -> u64;
+        pub fn yasna_write_identifiers(components: *const u64, length: usize, count: usize) -> u64;
         pub fn yasna_read_set_of(bytes: *const u8, length: usize, der: bool) -> u64;
         pub fn yasna_write_set_of(numbers: *const i64, length: usize) -> u64;
+        pub fn yasna_write_pair_values(bytes: *const u8, length: usize, times: u64) -> u64;
         pub fn yasna_ten_explicit(bytes: *const u8, length: usize) -> u64;
         pub fn yasna_ten_implicit(bytes: *const u8, length: usize) -> u64;
         pub fn yasna_ten_explicit_looped(bytes: *const u8, length: usize) -> u64;
@@ -156,6 +156,10 @@ pub fn read_set_of(bytes: &[u8], der: bool) -> u64 {
 
 pub fn write_set_of(numbers: &[i64]) -> u64 {
     unsafe { linked::yasna_write_set_of(numbers.as_ptr(), numbers.len()) }
+}
+
+pub fn write_pair_values(bytes: &[u8], times: u64) -> u64 {
+    unsafe { linked::yasna_write_pair_values(bytes.as_ptr(), bytes.len(), times) }
 }
 
 pub fn read_raw(bytes: &[u8], count: usize, der: bool) -> u64 {

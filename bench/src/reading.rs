@@ -34,8 +34,8 @@ pub fn cases() -> Vec<Case> {
         integers("100k small integers, read in a loop", small),
         integers("100k mixed integers", large),
         list("100k mixed integers, into a list", large),
-        pairs("20k pairs read", inputs::pair_list()),
-        options("20k pairs of options read", inputs::pair_list()),
+        pairs("20k pairs read", inputs::pair_list(PAIRS)),
+        options("20k pairs of options read", inputs::pair_list(PAIRS)),
         tagged("100k tagged integers read", inputs::tagged_list(numbers)),
         nest("nested 100, DER", inputs::nest(DEPTH), true),
         nest("nested 100, BER", inputs::indefinite_nest(DEPTH), false),
@@ -154,9 +154,7 @@ fn list(name: &'static str, bytes: &'static [u8]) -> Case {
             .fold(0, |checksum, number| mixed(checksum, *number))
     };
     Case::new(name, 3)
-        .with(Port, move || {
-            port::list_integers(black_box(bytes), true)
-        })
+        .with(Port, move || port::list_integers(black_box(bytes), true))
         .with(Upstream, move || {
             let read = yasna::decode_der::<Vec<i64>>(black_box(bytes));
             read.map_or(REFUSED, |numbers| checksum(&numbers))

@@ -10,6 +10,12 @@ use bcder::encode::{self, PrimitiveContent, Values};
 use std::hint::black_box;
 use yasna::{construct_der, encode_der, DERWriterSeq};
 
+type Pair = (i64, bool);
+
+// A pair as a type of `asn1`.
+#[derive(asn1::Asn1Write)]
+struct Parts(i64, bool);
+
 pub fn cases() -> Vec<Case> {
     vec![
         pair(),
@@ -17,6 +23,8 @@ pub fn cases() -> Vec<Case> {
         integers("write 100k mixed integers", inputs::mixed_integers()),
         pairs(),
         pairs_cer(),
+        pair_values("20k pairs as a value written", PAIRS, 20),
+        pair_values("a million pairs as a value written", 1_000_000, 5),
         nested_pairs("20k pairs inside 100 sequences", 100),
         nest("1 MiB in 50 sequences", inputs::big_contents(), 50, 2),
         nest("a level at depth 1", kept(vec![10]), 1, 20_000),
@@ -127,6 +135,44 @@ fn pairs() -> Case {
                 by_hand::write_pair(&mut contents, number, number % 2 == 0);
             }
             length(by_hand::enclosed(48, &contents))
+        })
+}
+
+// Pairs that are read once, and written so many times as a whole.
+fn pair_values(name: &'static str, count: u32, times: u64) -> Case {
+    let bytes = inputs::pair_list(count);
+    let numbers = 0..i64::from(count);
+    let pairs: Vec<Pair> = numbers.map(|number| (number, number % 2 == 0)).collect();
+    let pairs = kept(pairs);
+    let sum =
+        move |write: &dyn Fn() -> Vec<u8>| (0..black_box(times)).map(|_| length(write())).sum();
+    let list = pairs.to_vec();
+    let parts = kept(
+        pairs
+            .iter()
+            .map(|(number, flag)| Parts(*number, *flag))
+            .collect(),
+    );
+    Case::new(name, 1)
+        .by_parts(times as usize)
+        .with(Port, move || {
+            port::write_pair_values(black_box(bytes), black_box(times))
+        })
+        .with(Upstream, move || sum(&|| encode_der(black_box(&list))))
+        .with(Asn1, move || {
+            sum(&|| {
+                let written = asn1::write_single(&SequenceOfWriter::new(black_box(parts)));
+                written.expect("pairs can be written")
+            })
+        })
+        .with(ByHand, move || {
+            sum(&|| {
+                let mut contents = Vec::new();
+                for (number, flag) in black_box(pairs) {
+                    by_hand::write_pair(&mut contents, *number, *flag);
+                }
+                by_hand::enclosed(48, &contents)
+            })
         })
 }
 

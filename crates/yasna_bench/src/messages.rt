@@ -1,5 +1,6 @@
 //! Calls that read and write certificates, as the types of `x509`.
 
+use crate::writing::written;
 use crate::{length, mixed, number_of};
 use std::alloc::Global;
 use x509::Certificate;
@@ -46,16 +47,4 @@ fn rewritten<T: DERExact>(alloc: Global, bytes: &[u8]) -> ASN1Result<Vec<u8>> {
 #[unsafe(no_mangle)]
 pub extern "C" fn yasna_write_certificates(alloc: Global, bytes: &[u8], times: u64) -> u64 {
     number_of(written::<Vec<Encoded<Certificate>>>(alloc, bytes, times))
-}
-
-// The lengths of a value that is read once and written so many times, in sum.
-fn written<T: DERExact>(alloc: Global, bytes: &[u8], times: u64) -> ASN1Result<u64> {
-    one_der_encoding::<T>();
-    let value: T = decode_der(alloc, bytes)?;
-    let mut total: u64 = 0;
-    for _ in 0..times {
-        let encoding = encode_der(alloc, &value)?;
-        total = total.wrapping_add(encoding.len() as u64);
-    }
-    Ok(total)
 }

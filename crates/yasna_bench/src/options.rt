@@ -1,6 +1,4 @@
 //! Calls that read ten optional parts, each with its own tag.
-ghost use Rattle.std.specs.Prelude.{◌≤◌};
-
 use crate::{mixed, number_of};
 use std::alloc::Global;
 use yasna::{ASN1Result, BERReaderSeq, Tag, parse_der};
@@ -10,23 +8,31 @@ use yasna::{ASN1Result, BERReaderSeq, Tag, parse_der};
 pub extern "C" fn yasna_ten_explicit(alloc: Global, bytes: &[u8]) -> u64 {
     number_of(parse_der(alloc, bytes, |reader| {
         reader.read_sequence(|parts| {
-            let first = five_explicit(parts, 0)?;
-            let second = five_explicit(parts, 5)?;
+            let first = first_explicit(parts)?;
+            let second = last_explicit(parts)?;
             Ok(mixed(first, second.cast_signed()))
         })
     }))
 }
 
-// The checksum of five numbers with explicit tags, from this tag on.
+// The checksum of the first five numbers with explicit tags.
 #[inline(always)]
-fn five_explicit(parts: &mut BERReaderSeq, tag: u64) -> ASN1Result<u64>
-    requires { tag ≤ 5 }
-{
-    let mut checksum = mixed(0, explicit(parts, tag)?);
-    checksum = mixed(checksum, explicit(parts, tag + 1)?);
-    checksum = mixed(checksum, explicit(parts, tag + 2)?);
-    checksum = mixed(checksum, explicit(parts, tag + 3)?);
-    Ok(mixed(checksum, explicit(parts, tag + 4)?))
+fn first_explicit(parts: &mut BERReaderSeq) -> ASN1Result<u64> {
+    let mut checksum = mixed(0, explicit(parts, 0)?);
+    checksum = mixed(checksum, explicit(parts, 1)?);
+    checksum = mixed(checksum, explicit(parts, 2)?);
+    checksum = mixed(checksum, explicit(parts, 3)?);
+    Ok(mixed(checksum, explicit(parts, 4)?))
+}
+
+// The checksum of the last five numbers with explicit tags.
+#[inline(always)]
+fn last_explicit(parts: &mut BERReaderSeq) -> ASN1Result<u64> {
+    let mut checksum = mixed(0, explicit(parts, 5)?);
+    checksum = mixed(checksum, explicit(parts, 6)?);
+    checksum = mixed(checksum, explicit(parts, 7)?);
+    checksum = mixed(checksum, explicit(parts, 8)?);
+    Ok(mixed(checksum, explicit(parts, 9)?))
 }
 
 /// As `yasna_ten_explicit`, with implicit tags.
@@ -34,23 +40,31 @@ fn five_explicit(parts: &mut BERReaderSeq, tag: u64) -> ASN1Result<u64>
 pub extern "C" fn yasna_ten_implicit(alloc: Global, bytes: &[u8]) -> u64 {
     number_of(parse_der(alloc, bytes, |reader| {
         reader.read_sequence(|parts| {
-            let first = five_implicit(parts, 0)?;
-            let second = five_implicit(parts, 5)?;
+            let first = first_implicit(parts)?;
+            let second = last_implicit(parts)?;
             Ok(mixed(first, second.cast_signed()))
         })
     }))
 }
 
-// The checksum of five numbers with implicit tags, from this tag on.
+// The checksum of the first five numbers with implicit tags.
 #[inline(always)]
-fn five_implicit(parts: &mut BERReaderSeq, tag: u64) -> ASN1Result<u64>
-    requires { tag ≤ 5 }
-{
-    let mut checksum = mixed(0, implicit(parts, tag)?);
-    checksum = mixed(checksum, implicit(parts, tag + 1)?);
-    checksum = mixed(checksum, implicit(parts, tag + 2)?);
-    checksum = mixed(checksum, implicit(parts, tag + 3)?);
-    Ok(mixed(checksum, implicit(parts, tag + 4)?))
+fn first_implicit(parts: &mut BERReaderSeq) -> ASN1Result<u64> {
+    let mut checksum = mixed(0, implicit(parts, 0)?);
+    checksum = mixed(checksum, implicit(parts, 1)?);
+    checksum = mixed(checksum, implicit(parts, 2)?);
+    checksum = mixed(checksum, implicit(parts, 3)?);
+    Ok(mixed(checksum, implicit(parts, 4)?))
+}
+
+// The checksum of the last five numbers with implicit tags.
+#[inline(always)]
+fn last_implicit(parts: &mut BERReaderSeq) -> ASN1Result<u64> {
+    let mut checksum = mixed(0, implicit(parts, 5)?);
+    checksum = mixed(checksum, implicit(parts, 6)?);
+    checksum = mixed(checksum, implicit(parts, 7)?);
+    checksum = mixed(checksum, implicit(parts, 8)?);
+    Ok(mixed(checksum, implicit(parts, 9)?))
 }
 
 /// The checksum of ten numbers with explicit tags, by one call in a loop.

@@ -1,8 +1,11 @@
 //! Calls that write.
 
-use crate::length;
+use crate::{length, number_of};
 use std::alloc::Global;
-use yasna::{ASN1Result, DERWriter, DERWriterSeq, construct_cer, construct_der, encode_der};
+use yasna::{
+    ASN1Result, DERExact, DERWriter, DERWriterSeq, construct_cer, construct_der, decode_der,
+    encode_der, one_der_encoding,
+};
 
 /// The length of a SEQUENCE of the parts that `write` writes, given a value and a count.
 #[inline(always)]
@@ -21,6 +24,24 @@ where
 #[unsafe(no_mangle)]
 pub extern "C" fn yasna_encode_pair(alloc: Global, number: i64, flag: bool) -> u64 {
     length(encode_der(alloc, &(number, flag)))
+}
+
+/// The lengths of a SEQUENCE OF pairs that is read once and written so many times as a value, in sum.
+#[unsafe(no_mangle)]
+pub extern "C" fn yasna_write_pair_values(alloc: Global, bytes: &[u8], times: u64) -> u64 {
+    number_of(written::<Vec<(i64, bool)>>(alloc, bytes, times))
+}
+
+// The lengths of a value that is read once and written so many times, in sum.
+pub(crate) fn written<T: DERExact>(alloc: Global, bytes: &[u8], times: u64) -> ASN1Result<u64> {
+    one_der_encoding::<T>();
+    let value: T = decode_der(alloc, bytes)?;
+    let mut total: u64 = 0;
+    for _ in 0..times {
+        let encoding = encode_der(alloc, &value)?;
+        total = total.wrapping_add(encoding.len() as u64);
+    }
+    Ok(total)
 }
 
 /// The length of a SEQUENCE of these numbers.
