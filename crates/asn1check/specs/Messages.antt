@@ -1,15 +1,15 @@
 -- What bytes are as a message of a type, and what is written of them.
 use Rattle.std.specs.Global.{Global}
 use Rattle.std.specs.Prelude.{◌≡◌, ℕ, List, Result, Ok, Err, Vec}
-use Rattle.yasna.specs.Words.{Grammar, Encoding, ASN1Error, BERMode, Der, kind_of, OutOfMemory}
+use Rattle.yasna.specs.Words.{Grammar, Encoding, ASN1Error, BERMode, Der, kind_of, max_depth, OutOfMemory}
 
 -- s encodes no value in the mode m
 abbrev pub EncodesNone : {A : Type 0} → Grammar A → BERMode → List ℕ → Type 0
-EncodesNone {A} B m s = (v : A) → B m 101 v s → ⊥
+EncodesNone {A} B m s = (v : A) → B m max_depth v s → ⊥
 
 -- s encodes a value in the mode m
 abbrev pub EncodesSome : {A : Type 0} → Grammar A → BERMode → List ℕ → Type 0
-EncodesSome {A} B m s = (v : A) × B m 101 v s
+EncodesSome {A} B m s = (v : A) × B m max_depth v s
 
 -- Ok if s encodes a value in the mode m, or an error: it encodes none, or memory ran out
 abbrev pub Checked : {A : Type 0} → Grammar A → BERMode → List ℕ → Result (Unit {0}) ASN1Error → Type 0
@@ -17,12 +17,12 @@ Checked B m s (Ok _) = EncodesSome B m s
 Checked B m s (Err e) = (kind_of e ≡ OutOfMemory → ⊥) → EncodesNone B m s
 
 -- s encodes a value in the mode m, whose DER encoding is out
-pub record Converts {A : Type 0} (B : Grammar A) (encoding : Encoding A) (m : BERMode) (s out : List ℕ) : Type 0 where
+pub record Reencodes {A : Type 0} (B : Grammar A) (encoding : Encoding A) (m : BERMode) (s out : List ℕ) : Type 0 where
   pub value : A
-  pub read : B m 101 value s
+  pub read : B m max_depth value s
   pub written : out ≡ encoding Der value
 
 -- what is written for s, or an error: s encodes no value, or memory ran out
-abbrev pub Converted : {A : Type 0} → Grammar A → Encoding A → BERMode → List ℕ → Result (Vec ℕ Global) ASN1Error → Type 0
-Converted B encoding m s (Ok out) = Converts B encoding m s out.items
-Converted B encoding m s (Err e) = (kind_of e ≡ OutOfMemory → ⊥) → EncodesNone B m s
+abbrev pub Reencoded : {A : Type 0} → Grammar A → Encoding A → BERMode → List ℕ → Result (Vec ℕ Global) ASN1Error → Type 0
+Reencoded B encoding m s (Ok out) = Reencodes B encoding m s out.items
+Reencoded B encoding m s (Err e) = (kind_of e ≡ OutOfMemory → ⊥) → EncodesNone B m s

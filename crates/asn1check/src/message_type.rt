@@ -2,7 +2,7 @@
 ghost use Rattle.std.specs.Prelude.{◌≡◌, None, IfOk, IsSomeAnd};
 ghost use Rattle.yasna.proofs.Laws.{can_be_written};
 ghost use Rattle.asn1check.specs.Rewriting.{Rewritten};
-ghost use Rattle.asn1check.specs.Messages.{Checked, Converted};
+ghost use Rattle.asn1check.specs.Messages.{Checked, Reencoded};
 ghost use Rattle.asn1check.specs.declared.message_type.MessageType.{MessageType};
 
 use cms::ContentInfo;
@@ -60,7 +60,7 @@ fn rewritten<T: BERDecodable + DEREncodable + DERExact>(
 
 // Reads a value in this mode, and writes it in DER.
 fn converted<T: DERCanonical>(alloc: Global, mode: BERMode, bytes: &[u8]) -> ASN1Result<Vec<u8>>
-    ensures { Converted T.encodes T.encoding mode bytes.now result }
+    ensures { Reencoded T.encodes T.encoding mode bytes.now result }
 {
     let message: T = decode_ber_general(alloc, bytes, mode)?;
     encode_der(alloc, &message)
@@ -156,8 +156,8 @@ impl MessageType {
         mode: BERMode,
         bytes: &[u8],
     ) -> Option<ASN1Result<Vec<u8>>>
-        ensures snmp_v1 { self ≡ MessageType.SnmpV1 → IsSomeAnd result (Converted ⟦<Encoded<v1::SnmpMessage> as BERDecodable>⟧.encodes ⟦<Encoded<v1::SnmpMessage> as DEREncodable>⟧.encoding mode bytes.now) }
-        ensures snmp_v2c { self ≡ MessageType.SnmpV2c → IsSomeAnd result (Converted ⟦<Encoded<v2c::SnmpMessage> as BERDecodable>⟧.encodes ⟦<Encoded<v2c::SnmpMessage> as DEREncodable>⟧.encoding mode bytes.now) }
+        ensures snmp_v1 { self ≡ MessageType.SnmpV1 → IsSomeAnd result (Reencoded ⟦<Encoded<v1::SnmpMessage> as BERDecodable>⟧.encodes ⟦<Encoded<v1::SnmpMessage> as DEREncodable>⟧.encoding mode bytes.now) }
+        ensures snmp_v2c { self ≡ MessageType.SnmpV2c → IsSomeAnd result (Reencoded ⟦<Encoded<v2c::SnmpMessage> as BERDecodable>⟧.encodes ⟦<Encoded<v2c::SnmpMessage> as DEREncodable>⟧.encoding mode bytes.now) }
         ensures others { (self ≡ MessageType.SnmpV1 → ⊥) → (self ≡ MessageType.SnmpV2c → ⊥) → result ≡ None }
     {
         match self {

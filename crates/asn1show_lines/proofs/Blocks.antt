@@ -5,7 +5,7 @@ use Rattle.std.specs.Prelude.{get_or, drop, unwrap_or}
 use Rattle.std.specs.Result.{result_ok}
 use Rattle.asn1show_lines.specs.Blocks.{BeginsBlock, BlockDecodes, EndsBlock, IsInner, FirstBlock, DecodeBlocks}
 use Rattle.asn1show_lines.specs.Reader.{texts, OpenBlockDecodes, DecodeRest, AwaitsFrom}
-use Rattle.asn1show_lines.specs.declared.block.Line.{Line}
+use Rattle.asn1show_lines.specs.declared.block.TextLine.{TextLine}
 
 abbrev prefix : List (List ℕ) → List ℕ
 prefix lines = get_or lines 0 []
@@ -132,7 +132,7 @@ more_taken R taken line rest bytes not x (y ∷ ys) h =
       others = x.others;
     }
 
-module _ (taken new : List Line) (line : List ℕ) (rest : List (List ℕ)) (added : texts new ≡ texts taken ++ (line ∷ [])) where
+module _ (taken new : List TextLine) (line : List ℕ) (rest : List (List ℕ)) (added : texts new ≡ texts taken ++ (line ∷ [])) where
   decode_within : (blocks : List (List ℕ)) → (EndsBlock line → ⊥) → DecodeRest (Some taken) blocks (line ∷ rest) → DecodeRest (Some new) blocks rest
   decode_within [] not x = x
   decode_within (b ∷ more) not x =
@@ -180,7 +180,7 @@ cut_off R taken line rest bytes not is x (y ∷ ys) h =
     let e = x.joined ∙ ap (λ z. z ++ (x.last ∷ x.after)) h in
     (subst (AllByRecursion IsInner) h x.inner).0.1 (subst BeginsBlock (ap prefix e) is)
 
-none_cut_off : (taken : List Line) (line : List ℕ) (rest : List (List ℕ)) → (EndsBlock line → ⊥) → BeginsBlock line → (blocks : List (List ℕ)) →
+none_cut_off : (taken : List TextLine) (line : List ℕ) (rest : List (List ℕ)) → (EndsBlock line → ⊥) → BeginsBlock line → (blocks : List (List ℕ)) →
     DecodeRest (Some taken) blocks (line ∷ rest) → ⊥
 none_cut_off taken line rest not is [] x = x
 none_cut_off taken line rest not is (b ∷ more) x = cut_off (DecodeBlocks more) (texts taken) line rest b not is x x.body refl
@@ -200,7 +200,7 @@ module _ (P : List ℕ → Type 0) (line : List ℕ) (rest : List (List ℕ)) wh
     λ w. record { blocks = w.blocks; decode = decode_from_opened w.blocks line rest is w.decode; some = w.some; all = w.all },
   )
 
-  pub awaits_within : (taken new : List Line) (any : Bool) → texts new ≡ texts taken ++ (line ∷ []) → IsInner line →
+  pub awaits_within : (taken new : List TextLine) (any : Bool) → texts new ≡ texts taken ++ (line ∷ []) → IsInner line →
       AwaitsFrom P (Some taken) any (line ∷ rest) ↔ AwaitsFrom P (Some new) any rest
   awaits_within taken new any added inner = (
     λ w. record {
@@ -217,7 +217,7 @@ module _ (P : List ℕ → Type 0) (line : List ℕ) (rest : List (List ℕ)) wh
     },
   )
 
-  after_end : (taken : List Line) (bytes : List ℕ) → EndsBlock line → BlockDecodes (texts taken) bytes → (blocks : List (List ℕ)) →
+  after_end : (taken : List TextLine) (bytes : List ℕ) → EndsBlock line → BlockDecodes (texts taken) bytes → (blocks : List (List ℕ)) →
       DecodeRest (Some taken) blocks (line ∷ rest) →
       AllByRecursion P blocks → P bytes × AwaitsFrom P None true rest
   after_end taken bytes is d [] decode all = absurd decode
@@ -226,7 +226,7 @@ module _ (P : List ℕ → Type 0) (line : List ℕ) (rest : List (List ℕ)) wh
       let same : b ≡ bytes = ap (λ r. unwrap_or (result_ok r) []) (sym x.decodes.decodes ∙ d.decodes) in
       (subst P same all.0, record { blocks = more; decode = x.others; some = inl refl; all = all.1 })
 
-  pub awaits_ended : (taken : List Line) (bytes : List ℕ) (any : Bool) → EndsBlock line → BlockDecodes (texts taken) bytes →
+  pub awaits_ended : (taken : List TextLine) (bytes : List ℕ) (any : Bool) → EndsBlock line → BlockDecodes (texts taken) bytes →
       AwaitsFrom P (Some taken) any (line ∷ rest) ↔ (P bytes × AwaitsFrom P None true rest)
   awaits_ended taken bytes any is d = (
     λ w. after_end taken bytes is d w.blocks w.decode w.all,
@@ -247,16 +247,16 @@ module _ (P : List ℕ → Type 0) (line : List ℕ) (rest : List (List ℕ)) wh
     },
   )
 
-  none_after_end : (taken : List Line) → EndsBlock line → ((bytes : List ℕ) → BlockDecodes (texts taken) bytes → ⊥) → (blocks : List (List ℕ)) →
+  none_after_end : (taken : List TextLine) → EndsBlock line → ((bytes : List ℕ) → BlockDecodes (texts taken) bytes → ⊥) → (blocks : List (List ℕ)) →
       DecodeRest (Some taken) blocks (line ∷ rest) → ⊥
   none_after_end taken is not [] decode = decode
   none_after_end taken is not (b ∷ more) decode = not b (ended (DecodeBlocks more) (texts taken) line rest b is decode decode.body refl).decodes
 
-  pub awaits_nothing : (taken : List Line) (any : Bool) → EndsBlock line → ((bytes : List ℕ) → BlockDecodes (texts taken) bytes → ⊥) →
+  pub awaits_nothing : (taken : List TextLine) (any : Bool) → EndsBlock line → ((bytes : List ℕ) → BlockDecodes (texts taken) bytes → ⊥) →
       AwaitsFrom P (Some taken) any (line ∷ rest) → ⊥
   awaits_nothing taken any is not w = none_after_end taken is not w.blocks w.decode
 
-  pub awaits_cut : (taken : List Line) (any : Bool) → (EndsBlock line → ⊥) → BeginsBlock line → AwaitsFrom P (Some taken) any (line ∷ rest) → ⊥
+  pub awaits_cut : (taken : List TextLine) (any : Bool) → (EndsBlock line → ⊥) → BeginsBlock line → AwaitsFrom P (Some taken) any (line ∷ rest) → ⊥
   awaits_cut taken any not is w = none_cut_off taken line rest not is w.blocks w.decode
 
 -- ---- no line is left
@@ -265,7 +265,7 @@ no_last : (body : List (List ℕ)) (last : List ℕ) (after : List (List ℕ)) �
 no_last [] last after e = omega (arith, ap length e)
 no_last (x ∷ body) last after e = omega (arith, ap length e)
 
-pub none_left : (taken : Option (List Line)) (blocks : List (List ℕ)) → DecodeRest taken blocks [] → (taken ≡ None) × (blocks ≡ [])
+pub none_left : (taken : Option (List TextLine)) (blocks : List (List ℕ)) → DecodeRest taken blocks [] → (taken ≡ None) × (blocks ≡ [])
 unfolding DecodeBlocks
 none_left None [] decode = (refl, refl)
 none_left None (b ∷ more) decode = absurd (no_last decode.before decode.first (decode.body ++ (decode.last ∷ decode.after)) decode.joined)

@@ -5,7 +5,7 @@ use Rattle.std.specs.List.{after_first, before_first, list_any, position_or_len}
 use Rattle.std.proofs.lemmas.List.{drop-map, take-map}
 use Rattle.asn1show_lines.specs.Blocks.{body_in, has_headers, headers_in, is_blank}
 use Rattle.asn1show_lines.specs.Reader.{texts}
-use Rattle.asn1show_lines.specs.declared.block.Line.{Line}
+use Rattle.asn1show_lines.specs.declared.block.TextLine.{TextLine}
 
 -- ---- tests of the elements of a list, by the first that passes
 
@@ -46,17 +46,17 @@ module _ {X : Type 0} (p : X → Bool) where
 -- ---- tests of the texts of lines
 
 module _ (q : List ℕ → Bool) where
-  pub any_text : (lines : List Line) → list_any q (texts lines) ≡ list_any (λ l. q l.text.now) lines
+  pub any_text : (lines : List TextLine) → list_any q (texts lines) ≡ list_any (λ l. q l.text.now) lines
   any_text [] = refl
   any_text (x ∷ xs) = ap (λ z. q x.text.now || z) (any_text xs)
 
-  pub place_of_text : (lines : List Line) → position_or_len q (texts lines) ≡ position_or_len (λ l. q l.text.now) lines
+  pub place_of_text : (lines : List TextLine) → position_or_len q (texts lines) ≡ position_or_len (λ l. q l.text.now) lines
   place_of_text [] = refl
   place_of_text (x ∷ xs) = ap (λ z. cond (not (q x.text.now)) (1 + z) 0) (place_of_text xs)
 
 -- ---- the headers and the body
 
-module _ (lines : List Line) (has : has_headers (texts lines) ≡ true) (n : ℕ) (first : n ≡ position_or_len (λ l. is_blank l.text.now) lines) where
+module _ (lines : List TextLine) (has : has_headers (texts lines) ≡ true) (n : ℕ) (first : n ≡ position_or_len (λ l. is_blank l.text.now) lines) where
   same_place : position_or_len is_blank (texts lines) ≡ n
   same_place = place_of_text is_blank lines ∙ sym first
 

@@ -14,7 +14,7 @@ use Rattle.asn1show_walk.specs.declared.error.WalkError.TheVariants.{Malformed, 
 use Rattle.asn1show_walk.proofs.WalkFails.{fails_by}
 use Rattle.asn1show_lines.specs.Reader.{texts, BlockFails, BlockLacks, IsBody, IsDecoded, NoBase64, NoBlock, NoBody, no_base64, no_body}
 use Rattle.asn1show_lines.specs.Text.{IsBase64, IsMemoryError}
-use Rattle.asn1show_lines.specs.declared.block.Line.{Line}
+use Rattle.asn1show_lines.specs.declared.block.TextLine.{TextLine}
 
 pub malformed_is : (Q : ℕ → ASN1ErrorKind → Type 0) (f : WalkError) (o : ℕ) (k : ASN1ErrorKind) (e : Expected) → f ≡ Malformed o k e → Q o k → IsMalformed Q f
 malformed_is Q f o k e same q = subst (IsMalformed Q) (sym same) q
@@ -33,8 +33,8 @@ never_malformed Q Output x none = x
 never_malformed Q ClosedOutput x none = x
 
 -- ---- what a block decodes to, by its body
-module _ (lines : List Line) (end : ℕ) where
-  pub by_body : (body : List Line) → IsBody lines body → (r : Result (Vec ℕ Global) WalkError) → IfOk r (λ bytes. IsBase64 (concat (texts body)) bytes.items) →
+module _ (lines : List TextLine) (end : ℕ) where
+  pub by_body : (body : List TextLine) → IsBody lines body → (r : Result (Vec ℕ Global) WalkError) → IfOk r (λ bytes. IsBase64 (concat (texts body)) bytes.items) →
       IfErr r (λ f. WalkFails IsMemoryError (NoBase64 body end) f) → IsDecoded lines end r
   by_body body b (Ok bytes) ok err = record {
     headers_end = b.headers_end;

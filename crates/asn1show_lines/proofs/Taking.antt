@@ -10,8 +10,9 @@ use Rattle.asn1show_walk.specs.declared.error.WalkError.{WalkError}
 use Rattle.asn1show_walk.specs.declared.error.WalkError.TheVariants.{Malformed, Memory, Output, ClosedOutput}
 use Rattle.asn1show_lines.specs.Blocks.{says_encrypted, BeginsBlock, BlockDecodes, DecodeBlocks, EndsBlock}
 use Rattle.asn1show_lines.specs.Text.{IsBase64, IsMemoryError}
-use Rattle.asn1show_lines.specs.Reader.{texts, AwaitsFrom, Awaits, BlockHolds, BlockLacks, IsCutOff, IsDecoded, NoBlock, TakesLine, next_offset, open_lines, has_any, outside, begins, within, ends, cuts, no_blank, encrypted, no_body, no_base64}
-use Rattle.asn1show_lines.specs.declared.block.Line.{Line}
+use Rattle.asn1show_lines.specs.Reader.{texts, AwaitsFrom, Awaits, BlockHolds, BlockLacks, IsCutOff, IsDecoded, NoBlock, TakesLine, next_offset}
+use Rattle.asn1show_lines.specs.Reader.{open_lines, has_any, outside, begins, within, ends, cuts, no_blank, encrypted, no_body, no_base64}
+use Rattle.asn1show_lines.specs.declared.block.TextLine.{TextLine}
 use Rattle.asn1show_lines.specs.declared.pem.PemReader.{PemReader}
 use Rattle.asn1show_lines.proofs.Body.{any_found, any_text}
 use Rattle.asn1show_lines.proofs.Malformed.{never_malformed}
@@ -37,7 +38,7 @@ by_origin ClosedOutput = inl tt
 not_both : {b : Bool} → b ≡ true → b ≡ false → ⊥
 not_both e f = absurd (cc)
 
-pub decodes_nothing : (lines : List Line) (end o : ℕ) (k : ASN1ErrorKind) → NoBlock lines end o k → (bytes : List ℕ) → BlockDecodes (texts lines) bytes → ⊥
+pub decodes_nothing : (lines : List TextLine) (end o : ℕ) (k : ASN1ErrorKind) → NoBlock lines end o k → (bytes : List ℕ) → BlockDecodes (texts lines) bytes → ⊥
 decodes_nothing lines end o k (no_body (no_blank h b p q)) bytes x = not_both (x.headers_end h) b
 decodes_nothing lines end o k (no_body (encrypted headers header e found p q)) bytes x =
     not_both (any_text says_encrypted headers ∙ any_found (λ l. says_encrypted l.text.now) headers header found)
@@ -45,11 +46,11 @@ decodes_nothing lines end o k (no_body (encrypted headers header e found p q)) b
 decodes_nothing lines end o k (no_base64 body b n) bytes x = n.none bytes (subst (λ z. IsBase64 (concat z) bytes) (sym b.same) x.decodes)
 
 -- ---- one line
-last_text : (lines : List Line) (last : Line) (line : List ℕ) → last.text.now ≡ line → texts (lines ++ (last ∷ [])) ≡ texts lines ++ (line ∷ [])
+last_text : (lines : List TextLine) (last : TextLine) (line : List ℕ) → last.text.now ≡ line → texts (lines ++ (last ∷ [])) ≡ texts lines ++ (line ∷ [])
 last_text lines last line e = map-append (λ l. l.text.now) lines (last ∷ []) ∙ ap (λ z. texts lines ++ (z ∷ [])) e
 
 module _ (P : List ℕ → Type 0) (old new : PemReader) (line : List ℕ) (rest : List (List ℕ)) where
-  by_state : (d e : Option (List Line)) → open_lines old ≡ d → open_lines new ≡ e → has_any new ≡ has_any old →
+  by_state : (d e : Option (List TextLine)) → open_lines old ≡ d → open_lines new ≡ e → has_any new ≡ has_any old →
       (AwaitsFrom P d (has_any old) (line ∷ rest) ↔ AwaitsFrom P e (has_any old) rest) → Awaits P old (line ∷ rest) ↔ Awaits P new rest
   by_state d e f g a x =
       subst (λ z. AwaitsFrom P z (has_any old) (line ∷ rest) ↔ AwaitsFrom P (open_lines new) (has_any new) rest) (sym f)
@@ -65,7 +66,7 @@ module _ (P : List ℕ → Type 0) (old new : PemReader) (line : List ℕ) (rest
   goes_on (cuts lines r f none is s c g a) = absurd (cc)
 
   -- what is awaited, where a block ends that has these bytes
-  ended : (lines : List Line) (bytes : List ℕ) → open_lines old ≡ Some lines → EndsBlock line → BlockDecodes (texts lines) bytes → open_lines new ≡ None →
+  ended : (lines : List TextLine) (bytes : List ℕ) → open_lines old ≡ Some lines → EndsBlock line → BlockDecodes (texts lines) bytes → open_lines new ≡ None →
       has_any new ≡ true → Awaits P old (line ∷ rest) ↔ (P bytes × Awaits P new rest)
   ended lines bytes f end d g a =
       subst (λ z. AwaitsFrom P z (has_any old) (line ∷ rest) ↔ (P bytes × AwaitsFrom P (open_lines new) (has_any new) rest)) (sym f)
@@ -86,10 +87,10 @@ module _ (P : List ℕ → Type 0) (old new : PemReader) (line : List ℕ) (rest
       ((λ w. (x.0 w).1), (λ w. x.1 (holds, w)))
   goes_on_after (Ok bytes) (cuts lines r f none is s c g a) holds = absurd (subst (IsCutOff (next_offset old)) (same_block (Ok bytes) r s) c)
 
-  by_cut : (lines : List Line) → open_lines old ≡ Some lines → (EndsBlock line → ⊥) → BeginsBlock line → Awaits P old (line ∷ rest) → ⊥
+  by_cut : (lines : List TextLine) → open_lines old ≡ Some lines → (EndsBlock line → ⊥) → BeginsBlock line → Awaits P old (line ∷ rest) → ⊥
   by_cut lines f none is w = awaits_cut P line rest lines (has_any old) none is (subst (λ z. AwaitsFrom P z (has_any old) (line ∷ rest)) f w)
 
-  by_error : (lines : List Line) (f : WalkError) → WalkFails IsMemoryError (NoBlock lines (next_offset old)) f → (IsExternal f → ⊥) →
+  by_error : (lines : List TextLine) (f : WalkError) → WalkFails IsMemoryError (NoBlock lines (next_offset old)) f → (IsExternal f → ⊥) →
       open_lines old ≡ Some lines → EndsBlock line → Awaits P old (line ∷ rest) → ⊥
   by_error lines f (inl e) none o end w = none (is_external f e)
   by_error lines f (inr x) none o end w =

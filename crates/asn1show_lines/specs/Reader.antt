@@ -9,17 +9,17 @@ use Rattle.asn1show_walk.specs.Errors.{IsExternal, IsMalformed, WalkFails}
 use Rattle.asn1show_walk.specs.declared.error.WalkError.{WalkError}
 use Rattle.asn1show_lines.specs.Text.{is_in_base64, IsBase64, IsMemoryError}
 use Rattle.asn1show_lines.specs.Blocks.{body_in, has_headers, headers_in, is_blank, says_encrypted, BeginsBlock, BlockDecodes, DecodeBlocks, EndsBlock, IsInner}
-use Rattle.asn1show_lines.specs.declared.block.Line.{Line}
+use Rattle.asn1show_lines.specs.declared.block.TextLine.{TextLine}
 use Rattle.asn1show_lines.specs.declared.pem.PemReader.{PemReader}
 
 -- the texts of lines
-abbrev pub texts : List Line → List (List ℕ)
+abbrev pub texts : List TextLine → List (List ℕ)
 texts lines = map (λ l. l.text.now) lines
 
 -- ---- the bytes of a block, or why it has none
 
 -- the place of the octet of a line at this index
-abbrev pub octet_place : Line → ℕ → ℕ
+abbrev pub octet_place : TextLine → ℕ → ℕ
 octet_place line index = min (line.offset + index) (2 ^ 64 - 1)
 
 -- whether a text has an octet that is neither white space nor a digit of base64
@@ -30,39 +30,39 @@ has_stray text = list_any (λ c. not (is_in_base64 c)) text
 abbrev pub first_stray : List ℕ → ℕ
 first_stray text = position_or_len (λ c. not (is_in_base64 c)) text
 
-abbrev pub stray_place : Option Line → ℕ → ℕ
+abbrev pub stray_place : Option TextLine → ℕ → ℕ
 stray_place (Some line) end = octet_place line (first_stray line.text.now)
 stray_place None end = end
 
 -- the place of the first such octet of lines, or the end if there is none
-abbrev pub base64_place : List Line → ℕ → ℕ
+abbrev pub base64_place : List TextLine → ℕ → ℕ
 base64_place lines end = stray_place (find (λ l. has_stray l.text.now) lines) end
 
 -- lines encode no bytes in base64, which is reported at their first octet that is neither white space nor a digit, else at their end
-pub record NoBase64 (lines : List Line) (end offset : ℕ) (kind : ASN1ErrorKind) : Type 0 where
+pub record NoBase64 (lines : List TextLine) (end offset : ℕ) (kind : ASN1ErrorKind) : Type 0 where
   pub none : (bytes : List ℕ) → IsBase64 (concat (texts lines)) bytes → ⊥
   pub place : offset ≡ base64_place lines end
   pub invalid : kind ≡ Invalid
 
 -- the lines of base64 of a block whose headers end, and don't say that it is encrypted
-pub record IsBody (lines body : List Line) : Type 0 where
+pub record IsBody (lines body : List TextLine) : Type 0 where
   pub headers_end : has_headers (texts lines) ≡ true → list_any is_blank (texts lines) ≡ true
   pub is_plain : list_any says_encrypted (headers_in (texts lines)) ≡ false
   pub same : texts body ≡ body_in (texts lines)
 
 -- the lines of a block whose last line is at the end have no such body: no blank line ends the headers, or a header says that it is encrypted
-pub data NoBody (lines : List Line) (end offset : ℕ) (kind : ASN1ErrorKind) : Type 0 where
+pub data NoBody (lines : List TextLine) (end offset : ℕ) (kind : ASN1ErrorKind) : Type 0 where
   no_blank : has_headers (texts lines) ≡ true → list_any is_blank (texts lines) ≡ false → offset ≡ end → kind ≡ Eof → NoBody lines end offset kind
-  encrypted : (headers : List Line) (header : Line) → texts headers ≡ headers_in (texts lines) → find (λ l. says_encrypted l.text.now) headers ≡ Some header →
+  encrypted : (headers : List TextLine) (header : TextLine) → texts headers ≡ headers_in (texts lines) → find (λ l. says_encrypted l.text.now) headers ≡ Some header →
       offset ≡ header.offset → kind ≡ Invalid → NoBody lines end offset kind
 
 -- the lines of a block whose last line is at the end encode no bytes
-pub data NoBlock (lines : List Line) (end offset : ℕ) (kind : ASN1ErrorKind) : Type 0 where
+pub data NoBlock (lines : List TextLine) (end offset : ℕ) (kind : ASN1ErrorKind) : Type 0 where
   no_body : NoBody lines end offset kind → NoBlock lines end offset kind
-  no_base64 : (body : List Line) → IsBody lines body → NoBase64 body end offset kind → NoBlock lines end offset kind
+  no_base64 : (body : List TextLine) → IsBody lines body → NoBase64 body end offset kind → NoBlock lines end offset kind
 
 -- what the lines of a block decode to, where its last line is at the end
-abbrev pub IsDecoded : List Line → ℕ → Result (Vec ℕ Global) WalkError → Type 0
+abbrev pub IsDecoded : List TextLine → ℕ → Result (Vec ℕ Global) WalkError → Type 0
 IsDecoded lines end (Ok bytes) = BlockDecodes (texts lines) bytes.items
 IsDecoded lines end (Err f) = WalkFails IsMemoryError (NoBlock lines end) f
 
@@ -89,7 +89,7 @@ BlockFails Q (Err f) offset kind = IsMalformed (λ at k. (at ≡ offset) × (k �
 -- ---- the reader
 
 -- the lines of the block that is open, if one is
-abbrev pub open_lines : PemReader → Option (List Line)
+abbrev pub open_lines : PemReader → Option (List TextLine)
 open_lines reader = option_map (λ b. b.lines.items) reader.block
 
 -- whether a block has ended
@@ -104,11 +104,11 @@ next_offset reader = reader.offset
 pub data TakesLine (old : PemReader) (line : List ℕ) (decoded : Option (Result (Vec ℕ Global) WalkError)) (new : PemReader) : Type 0 where
   outside : open_lines old ≡ None → (BeginsBlock line → ⊥) → decoded ≡ None → open_lines new ≡ None → has_any new ≡ has_any old → TakesLine old line decoded new
   begins : open_lines old ≡ None → BeginsBlock line → decoded ≡ None → open_lines new ≡ Some [] → has_any new ≡ has_any old → TakesLine old line decoded new
-  within : (lines : List Line) (last : Line) → open_lines old ≡ Some lines → IsInner line → decoded ≡ None → last.text.now ≡ line →
+  within : (lines : List TextLine) (last : TextLine) → open_lines old ≡ Some lines → IsInner line → decoded ≡ None → last.text.now ≡ line →
       last.offset ≡ next_offset old → open_lines new ≡ Some (lines ++ (last ∷ [])) → has_any new ≡ has_any old → TakesLine old line decoded new
-  ends : (lines : List Line) (r : Result (Vec ℕ Global) WalkError) → open_lines old ≡ Some lines → EndsBlock line → decoded ≡ Some r →
+  ends : (lines : List TextLine) (r : Result (Vec ℕ Global) WalkError) → open_lines old ≡ Some lines → EndsBlock line → decoded ≡ Some r →
       IsDecoded lines (next_offset old) r → open_lines new ≡ None → has_any new ≡ true → TakesLine old line decoded new
-  cuts : (lines : List Line) (r : Result (Vec ℕ Global) WalkError) → open_lines old ≡ Some lines → (EndsBlock line → ⊥) → BeginsBlock line → decoded ≡ Some r →
+  cuts : (lines : List TextLine) (r : Result (Vec ℕ Global) WalkError) → open_lines old ≡ Some lines → (EndsBlock line → ⊥) → BeginsBlock line → decoded ≡ Some r →
       IsCutOff (next_offset old) r → open_lines new ≡ Some [] → has_any new ≡ has_any old → TakesLine old line decoded new
 
 -- at the end of the input: the block that is open, or there is none and one has ended
@@ -128,13 +128,13 @@ pub record OpenBlockDecodes (R : List (List ℕ) → Type 0) (taken : List (List
   pub others : R after
 
 -- the blocks that end in lines encode these bytes each, where the first of them may be open
-abbrev pub DecodeRest : Option (List Line) → List (List ℕ) → List (List ℕ) → Type 0
+abbrev pub DecodeRest : Option (List TextLine) → List (List ℕ) → List (List ℕ) → Type 0
 DecodeRest None blocks lines = DecodeBlocks blocks lines
 DecodeRest (Some taken) [] lines = ⊥
 DecodeRest (Some taken) (bytes ∷ more) lines = OpenBlockDecodes (DecodeBlocks more) (texts taken) lines bytes
 
 -- P holds of the bytes of each block that ends in these lines, and a block ends in them or has ended before
-pub record AwaitsFrom (P : List ℕ → Type 0) (taken : Option (List Line)) (any : Bool) (lines : List (List ℕ)) : Type 0 where
+pub record AwaitsFrom (P : List ℕ → Type 0) (taken : Option (List TextLine)) (any : Bool) (lines : List (List ℕ)) : Type 0 where
   pub blocks : List (List ℕ)
   pub decode : DecodeRest taken blocks lines
   pub some : (any ≡ true) ⊎ (1 ≤ length blocks)

@@ -14,7 +14,7 @@ use yasna_base::error::ASN1ErrorKind;
 
 /// A line, and where it begins in the input.
 #[derive(Clone, Copy)]
-pub struct Line<'a> {
+pub struct TextLine<'a> {
     /// The offset of its first octet.
     pub offset: usize,
     /// The octets, without the end of the line.
@@ -57,7 +57,7 @@ fn says_encrypted(line: &[u8]) -> bool
 }
 
 // Whether the lines of a block begin with headers (RFC 1421): the first of them has a colon.
-fn has_headers(lines: &[Line<'_>]) -> bool
+fn has_headers(lines: &[TextLine<'_>]) -> bool
     ensures { result ≡ has_headers (texts lines.now) }
 {
     match lines.first() {
@@ -67,7 +67,7 @@ fn has_headers(lines: &[Line<'_>]) -> bool
 }
 
 // The lines after the headers, of a block whose last line is at this offset.
-fn body_of<'a, 'b>(lines: &'a [Line<'b>], end: usize) -> Result<&'a [Line<'b>], WalkError>
+fn body_of<'a, 'b>(lines: &'a [TextLine<'b>], end: usize) -> Result<&'a [TextLine<'b>], WalkError>
     ensures ok { IfOk result (λ body. IsBody lines.now body.now) }
     ensures malformed { IfErr result (λ f. IsMalformed (NoBody lines.now end) f) }
 {
@@ -84,7 +84,7 @@ fn body_of<'a, 'b>(lines: &'a [Line<'b>], end: usize) -> Result<&'a [Line<'b>], 
 }
 
 /// The bytes of a block by its lines, the last of which ends at this offset.
-pub fn decode_block(alloc: Global, lines: &[Line<'_>], end: usize) -> Result<Vec<u8>, WalkError>
+pub fn decode_block(alloc: Global, lines: &[TextLine<'_>], end: usize) -> Result<Vec<u8>, WalkError>
     ensures { IsDecoded lines.now end result }
 {
     match body_of(lines, end) {

@@ -7,7 +7,7 @@ ghost use Rattle.asn1show_lines.specs.Text.{base64_of_text, digits_of, is_betwee
 ghost use Rattle.asn1show_walk.specs.Errors.{IsMalformed, WalkFails};
 ghost use Rattle.asn1show_walk.specs.declared.error.WalkError.TheVariants.{Malformed};
 
-use crate::block::Line;
+use crate::block::TextLine;
 use asn1show_walk::{Expected, WalkError};
 use base64::engine::general_purpose::STANDARD;
 use base64::{DecodeAllocError, DecodeError};
@@ -75,7 +75,7 @@ fn push_base64(digits: &mut Vec<u8>, text: &[u8]) -> Result<(), AllocError>
 }
 
 // Appends the octets of lines but white space.
-fn push_lines(digits: &mut Vec<u8>, lines: &[Line<'_>]) -> Result<(), AllocError>
+fn push_lines(digits: &mut Vec<u8>, lines: &[TextLine<'_>]) -> Result<(), AllocError>
     ensures { OnOk result (digits.new.items ≡ digits.old.items ++ base64_of_text (concat (texts lines.now))) }
 {
     for line in lines {
@@ -147,7 +147,7 @@ fn expected_for_padding(error: DecodeError) -> Expected {
 }
 
 // The error at the first octet of a line that is neither white space nor a digit of base64.
-fn malformed_line(line: &Line<'_>, error: DecodeError) -> WalkError
+fn malformed_line(line: &TextLine<'_>, error: DecodeError) -> WalkError
     ensures { IsMalformed (λ offset kind. (offset ≡ octet_place line.now (first_stray line.now.text.now)) × (kind ≡ Invalid)) result }
 {
     let index = first_stray(line.text);
@@ -159,7 +159,7 @@ fn malformed_line(line: &Line<'_>, error: DecodeError) -> WalkError
 }
 
 // The error of lines that aren't base64 for this reason, and end at this offset.
-fn malformed_base64(lines: &[Line<'_>], end: usize, error: DecodeError) -> WalkError
+fn malformed_base64(lines: &[TextLine<'_>], end: usize, error: DecodeError) -> WalkError
     ensures { IsMalformed (λ offset kind. (offset ≡ base64_place lines.now end) × (kind ≡ Invalid)) result }
 {
     match lines.iter().find(|line| has_stray(line.text)) {
@@ -169,7 +169,11 @@ fn malformed_base64(lines: &[Line<'_>], end: usize, error: DecodeError) -> WalkE
 }
 
 /// The bytes of lines in base64, which end at this offset.
-pub fn decode_base64(alloc: Global, lines: &[Line<'_>], end: usize) -> Result<Vec<u8>, WalkError>
+pub fn decode_base64(
+    alloc: Global,
+    lines: &[TextLine<'_>],
+    end: usize,
+) -> Result<Vec<u8>, WalkError>
     ensures ok { IfOk result (λ bytes. IsBase64 (concat (texts lines.now)) bytes.items) }
     ensures malformed { IfErr result (λ f. WalkFails IsMemoryError (NoBase64 lines.now end) f) }
 {

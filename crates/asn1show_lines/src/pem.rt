@@ -6,7 +6,7 @@ ghost use Rattle.asn1show_lines.specs.Input.{BeginsAsBlock};
 ghost use Rattle.asn1show_lines.specs.Reader.{has_any, next_offset, open_lines, IsCutOff, IsDecoded, IsUnclosed, TakesLine};
 ghost use Rattle.asn1show_walk.specs.Errors.{IsMalformed};
 
-use crate::block::{Line, decode_block, missing};
+use crate::block::{TextLine, decode_block, missing};
 use asn1show_walk::{Expected, WalkError};
 use std::alloc::{AllocError, Global};
 
@@ -68,7 +68,7 @@ pub struct Block<'a> {
 #[derive(Drop)]
 struct OpenBlock<'a> {
     label: &'a [u8],
-    lines: Vec<Line<'a>>,
+    lines: Vec<TextLine<'a>>,
 }
 
 impl<'a> OpenBlock<'a> {
@@ -158,7 +158,7 @@ impl<'a> PemReader<'a> {
             self.block = next;
             return Ok(Some(block.cut(offset)));
         }
-        block.lines.push(Line { offset, text: line })?;
+        block.lines.push(TextLine { offset, text: line })?;
         self.block = Some(block);
         Ok(None)
     }

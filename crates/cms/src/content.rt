@@ -1,6 +1,6 @@
 //! What a ContentInfo contains, as a value of its type (RFC 5652, 3).
 ghost use Rattle.std.specs.Prelude.{◌≡◌, IfErr, IfOk};
-ghost use Rattle.yasna.specs.Words.{Ber, OutOfMemory, kind_of, raw_of};
+ghost use Rattle.yasna.specs.Words.{Ber, OutOfMemory, kind_of, max_depth, raw_of};
 ghost use Rattle.cms.specs.Content.{WithPayload};
 
 use crate::content_info::ContentInfo;
@@ -13,8 +13,8 @@ use yasna::{ASN1ErrorKind, ASN1Result, BERDecodable, decode_ber, encode_cer, enc
 /// end it, so it is read after the octet 128 if it can't be read after its shortest length. Levels count from the content on. An `Err`
 /// other than `OutOfMemory` says that it encodes no value in either way.
 pub fn decode_content<T: BERDecodable>(alloc: Global, info: &ContentInfo) -> ASN1Result<T>
-    ensures value { IfOk result (λ v. WithPayload (T.encodes Ber 101 v) (raw_of info.now.content)) }
-    ensures rejected { IfErr result (λ e. (kind_of e ≡ OutOfMemory → ⊥) → WithPayload (T.elements Ber 101) (raw_of info.now.content) → ⊥) }
+    ensures value { IfOk result (λ v. WithPayload (T.encodes Ber max_depth v) (raw_of info.now.content)) }
+    ensures rejected { IfErr result (λ e. (kind_of e ≡ OutOfMemory → ⊥) → WithPayload (T.elements Ber max_depth) (raw_of info.now.content) → ⊥) }
 {
     let definite = encode_der(alloc, &info.content)?;
     match decode_ber(alloc, &definite) {

@@ -1,6 +1,6 @@
 //! A list of a CHOICE, which is read by the next tag.
 ghost use Rattle.std.specs.Prelude.{◌≡◌, ℤ, List, Option, true, false, IfOk, MatchResult};
-ghost use Rattle.yasna.specs.Words.{Der, OutOfMemory, kind_of, Decodes, IsFresh};
+ghost use Rattle.yasna.specs.Words.{Der, OutOfMemory, kind_of, max_depth, Decodes, IsFresh};
 ghost use Rattle.examples_proved.specs.Items.{EncodesItem, AnyItem, EncodesItems, AnyItems};
 
 use std::alloc::Global;
@@ -34,8 +34,8 @@ fn number_or_null(item: BERReader) -> ASN1Result<Option<i64>>
 ///
 /// Rejects exactly the bytes that aren't the encoding of such a list, unless memory runs out.
 pub fn parsed_items(alloc: Global, buf: &[u8]) -> ASN1Result<Vec<Option<i64>>>
-    ensures items { IfOk result (λ v. EncodesItems Der 101 v.items buf.now) }
-    ensures exactly { (vs : List (Option ℤ)) → EncodesItems Der 101 vs buf.now → MatchResult result (λ v. v.items ≡ vs) (λ e. kind_of e ≡ OutOfMemory) }
+    ensures items { IfOk result (λ v. EncodesItems Der max_depth v.items buf.now) }
+    ensures exactly { (vs : List (Option ℤ)) → EncodesItems Der max_depth vs buf.now → MatchResult result (λ v. v.items ≡ vs) (λ e. kind_of e ≡ OutOfMemory) }
 {
     parse_der(
         alloc,

@@ -2,7 +2,7 @@
 ghost use Rattle.std.specs.Prelude.{◌≡◌, ℤ, Bool, List, true, false, IfOk, IfErr, MatchResult};
 ghost use Rattle.std.specs.Int.{w64};
 ghost use Rattle.yasna.specs.Words.{Der, OutOfMemory, kind_of, Any, EncodesBoolean, Decodes, Step, Done, IsFresh, integer_tag};
-ghost use Rattle.yasna.specs.Words.{part_of, EncodesSigned, integer_encoding};
+ghost use Rattle.yasna.specs.Words.{part_of, EncodesSigned, integer_encoding, max_depth};
 ghost use Rattle.examples_proved.specs.Pair.{EncodesPair, AnyPair};
 ghost use Rattle.examples_proved.specs.Numbers.{EncodesNumbers, AnyNumbers};
 
@@ -15,8 +15,8 @@ use yasna::{
 ///
 /// Rejects exactly the bytes that aren't the encoding of such a number.
 pub fn parsed_integer(alloc: Global, buf: &[u8]) -> ASN1Result<i64>
-    ensures number { IfOk result (λ v. EncodesSigned w64 Der 101 v buf.now × (buf.now ≡ integer_encoding integer_tag Der v)) }
-    ensures rejected { IfErr result (λ e. ((v : ℤ) → EncodesSigned w64 Der 101 v buf.now → ⊥) × (kind_of e ≡ OutOfMemory → ⊥)) }
+    ensures number { IfOk result (λ v. EncodesSigned w64 Der max_depth v buf.now × (buf.now ≡ integer_encoding integer_tag Der v)) }
+    ensures rejected { IfErr result (λ e. ((v : ℤ) → EncodesSigned w64 Der max_depth v buf.now → ⊥) × (kind_of e ≡ OutOfMemory → ⊥)) }
 {
     parse_der(alloc, buf, |reader| reader.read_i64())
 }
@@ -33,8 +33,8 @@ pub fn constructed_integer(alloc: Global, number: i64) -> ASN1Result<Vec<u8>>
 ///
 /// Rejects exactly the bytes that aren't the encoding of such a pair.
 pub fn parsed_pair(alloc: Global, buf: &[u8]) -> ASN1Result<(i64, bool)>
-    ensures pair { IfOk result (λ v. EncodesPair Der 101 v buf.now) }
-    ensures rejected { IfErr result (λ e. ((v : ℤ × Bool) → EncodesPair Der 101 v buf.now → ⊥) × (kind_of e ≡ OutOfMemory → ⊥)) }
+    ensures pair { IfOk result (λ v. EncodesPair Der max_depth v buf.now) }
+    ensures rejected { IfErr result (λ e. ((v : ℤ × Bool) → EncodesPair Der max_depth v buf.now → ⊥) × (kind_of e ≡ OutOfMemory → ⊥)) }
 {
     parse_der(
         alloc,
@@ -61,8 +61,8 @@ pub fn parsed_pair(alloc: Global, buf: &[u8]) -> ASN1Result<(i64, bool)>
 ///
 /// Rejects exactly the bytes that aren't the encoding of such a list, unless memory runs out.
 pub fn parsed_numbers(alloc: Global, buf: &[u8]) -> ASN1Result<Vec<i64>>
-    ensures numbers { IfOk result (λ v. EncodesNumbers Der 101 v.items buf.now) }
-    ensures exactly { (vs : List ℤ) → EncodesNumbers Der 101 vs buf.now → MatchResult result (λ v. v.items ≡ vs) (λ e. kind_of e ≡ OutOfMemory) }
+    ensures numbers { IfOk result (λ v. EncodesNumbers Der max_depth v.items buf.now) }
+    ensures exactly { (vs : List ℤ) → EncodesNumbers Der max_depth vs buf.now → MatchResult result (λ v. v.items ≡ vs) (λ e. kind_of e ≡ OutOfMemory) }
 {
     parse_der(
         alloc,

@@ -7,7 +7,7 @@ ghost use Rattle.yasna.specs.Words.{utf8_depth, sequence_tag, PartOf, NoParts, A
 ghost use Rattle.yasna.specs.Words.{Enclosed, AnyEnclosed, Primitively, EncodesBoolean, IsUnsigned, EncodesSigned};
 ghost use Rattle.yasna.specs.Words.{EncodesUnsigned, integer_encoding, Decodes, Step, Done, boolean_encoding, leaf_depth, enclosed_encoding};
 ghost use Rattle.yasna.specs.Words.{enclosed_depth, Always, part_encoding, part_depth, part_can, nothing_encoding, nothing_depth, NeverAllocates};
-ghost use Rattle.yasna.specs.Words.{Reads, NoLevel, IsFresh, part_of};
+ghost use Rattle.yasna.specs.Words.{Reads, NoLevel, IsFresh, max_depth, part_of};
 ghost use Rattle.yasna.proofs.Laws.{part, no_part, tuple, bool_coding, signed_coding, unsigned_coding, vec_coding, text_coding};
 ghost use Rattle.yasna.proofs.Laws.{part_written, no_part_written, tuple_written, bool_written, signed_written, unsigned_written, vec_written, text_written};
 
@@ -129,8 +129,8 @@ pub fn encoded_report(alloc: Global, name: String, raw: Vec<u8>, number: i64) ->
 
 /// The DER encoding of a value that these bytes are in BER. What was read can be written, by the law of `DERCanonical`.
 pub fn normalized<T: DERCanonical>(alloc: Global, src: &[u8]) -> ASN1Result<Vec<u8>>
-    ensures encoding { IfOk result (λ bytes. (v : T) × T.encodes Ber 101 v src.now × (bytes.items ≡ T.encoding Der v)) }
-    ensures rejected { IfErr result (λ e. (kind_of e ≡ OutOfMemory → ⊥) → (v : T) → T.encodes Ber 101 v src.now → ⊥) }
+    ensures encoding { IfOk result (λ bytes. (v : T) × T.encodes Ber max_depth v src.now × (bytes.items ≡ T.encoding Der v)) }
+    ensures rejected { IfErr result (λ e. (kind_of e ≡ OutOfMemory → ⊥) → (v : T) → T.encodes Ber max_depth v src.now → ⊥) }
 {
     let value: T = decode_ber(alloc, src)?;
     encode_der(alloc, &value)
@@ -138,8 +138,8 @@ pub fn normalized<T: DERCanonical>(alloc: Global, src: &[u8]) -> ASN1Result<Vec<
 
 /// The DER encoding of a report that these bytes are in BER.
 pub fn normalized_report(alloc: Global, src: &[u8]) -> ASN1Result<Vec<u8>>
-    ensures encoding { IfOk result (λ bytes. (v : Report) × ⟦<Report as BERDecodable>⟧.encodes Ber 101 v src.now × (bytes.items ≡ ⟦<Report as DEREncodable>⟧.encoding Der v)) }
-    ensures rejected { IfErr result (λ e. (kind_of e ≡ OutOfMemory → ⊥) → (v : Report) → ⟦<Report as BERDecodable>⟧.encodes Ber 101 v src.now → ⊥) }
+    ensures encoding { IfOk result (λ bytes. (v : Report) × ⟦<Report as BERDecodable>⟧.encodes Ber max_depth v src.now × (bytes.items ≡ ⟦<Report as DEREncodable>⟧.encoding Der v)) }
+    ensures rejected { IfErr result (λ e. (kind_of e ≡ OutOfMemory → ⊥) → (v : Report) → ⟦<Report as BERDecodable>⟧.encodes Ber max_depth v src.now → ⊥) }
 {
     normalized::<Report>(alloc, src)
 }

@@ -4,7 +4,16 @@ use Rattle.std.specs.Prelude.{◌↔◌}
 use Rattle.std.specs.Int.{w64}
 use Rattle.yasna_notation.specs.Bounded.{from_zero}
 use Rattle.ldap.specs.declared.result_code.ResultCode.{ResultCode}
-use Rattle.ldap.specs.declared.result_code.ResultCode.TheVariants.{Success, OperationsError, ProtocolError, TimeLimitExceeded, SizeLimitExceeded, CompareFalse, CompareTrue, AuthMethodNotSupported, StrongerAuthRequired, Referral, AdminLimitExceeded, UnavailableCriticalExtension, ConfidentialityRequired, SaslBindInProgress, NoSuchAttribute, UndefinedAttributeType, InappropriateMatching, ConstraintViolation, AttributeOrValueExists, InvalidAttributeSyntax, NoSuchObject, AliasProblem, InvalidDnSyntax, AliasDereferencingProblem, InappropriateAuthentication, InvalidCredentials, InsufficientAccessRights, Busy, Unavailable, UnwillingToPerform, LoopDetect, NamingViolation, ObjectClassViolation, NotAllowedOnNonLeaf, NotAllowedOnRdn, EntryAlreadyExists, ObjectClassModsProhibited, AffectsMultipleDsas, OtherError, Other}
+use Rattle.ldap.specs.declared.result_code.ResultCode.TheVariants.{Success, OperationsError, ProtocolError, TimeLimitExceeded, SizeLimitExceeded}
+use Rattle.ldap.specs.declared.result_code.ResultCode.TheVariants.{CompareFalse, CompareTrue, AuthMethodNotSupported, StrongerAuthRequired, Referral}
+use Rattle.ldap.specs.declared.result_code.ResultCode.TheVariants.{AdminLimitExceeded, UnavailableCriticalExtension, ConfidentialityRequired}
+use Rattle.ldap.specs.declared.result_code.ResultCode.TheVariants.{SaslBindInProgress, NoSuchAttribute, UndefinedAttributeType, InappropriateMatching}
+use Rattle.ldap.specs.declared.result_code.ResultCode.TheVariants.{ConstraintViolation, AttributeOrValueExists, InvalidAttributeSyntax, NoSuchObject}
+use Rattle.ldap.specs.declared.result_code.ResultCode.TheVariants.{AliasProblem, InvalidDnSyntax, AliasDereferencingProblem}
+use Rattle.ldap.specs.declared.result_code.ResultCode.TheVariants.{InappropriateAuthentication, InvalidCredentials, InsufficientAccessRights, Busy}
+use Rattle.ldap.specs.declared.result_code.ResultCode.TheVariants.{Unavailable, UnwillingToPerform, LoopDetect, NamingViolation, ObjectClassViolation}
+use Rattle.ldap.specs.declared.result_code.ResultCode.TheVariants.{NotAllowedOnNonLeaf, NotAllowedOnRdn, EntryAlreadyExists, ObjectClassModsProhibited}
+use Rattle.ldap.specs.declared.result_code.ResultCode.TheVariants.{AffectsMultipleDsas, OtherError, Other}
 
 -- the number of each; one that the module doesn't name holds its number
 abbrev pub code_number : ResultCode → ℤ

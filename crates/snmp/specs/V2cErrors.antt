@@ -1,7 +1,10 @@
 -- The numbers of errors of SNMPv2 (RFC 3416, 3).
 use Rattle.std.proofs.Common.{ℤ, pos}
 use Rattle.snmp.specs.declared.v2c.error_status.ErrorStatus.{ErrorStatus}
-use Rattle.snmp.specs.declared.v2c.error_status.ErrorStatus.TheVariants.{NoError, TooBig, NoSuchName, BadValue, ReadOnly, GenErr, NoAccess, WrongType, WrongLength, WrongEncoding, WrongValue, NoCreation, InconsistentValue, ResourceUnavailable, CommitFailed, UndoFailed, AuthorizationError, NotWritable, InconsistentName, Other}
+use Rattle.snmp.specs.declared.v2c.error_status.ErrorStatus.TheVariants.{NoError, TooBig, NoSuchName, BadValue, ReadOnly, GenErr, NoAccess, WrongType}
+use Rattle.snmp.specs.declared.v2c.error_status.ErrorStatus.TheVariants.{WrongLength, WrongEncoding, WrongValue, NoCreation, InconsistentValue}
+use Rattle.snmp.specs.declared.v2c.error_status.ErrorStatus.TheVariants.{ResourceUnavailable, CommitFailed, UndoFailed, AuthorizationError}
+use Rattle.snmp.specs.declared.v2c.error_status.ErrorStatus.TheVariants.{NotWritable, InconsistentName, Other}
 
 -- the number of each; one without a name holds its number
 abbrev pub status_number : ErrorStatus → ℤ

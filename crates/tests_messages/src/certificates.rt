@@ -203,12 +203,12 @@ impl Looks for Encoded<Certificate> {
 }
 
 fn is_of_authority(serial: &(Vec<u8>, bool)) -> bool {
-    serial.0.as_slice() == [0, 241, 226, 211, 196, 181, 166, 151].as_slice() && serial.1
+    serial.0.as_slice() == [0x00, 0xf1, 0xe2, 0xd3, 0xc4, 0xb5, 0xa6, 0x97].as_slice() && serial.1
 }
 
 fn has_issuer_id(id: &Option<(Vec<u8>, usize)>) -> bool {
     match id {
-        Some((octets, bits)) => octets.as_slice() == [171, 192].as_slice() && *bits == 12,
+        Some((octets, bits)) => octets.as_slice() == [0xab, 0xc0].as_slice() && *bits == 12,
         None => false,
     }
 }

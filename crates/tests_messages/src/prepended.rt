@@ -25,7 +25,7 @@ enum Element {
 impl Element {
     fn prepend(self, out: &mut PrependBuffer) -> ASN1Result<()> {
         match self {
-            Element::Bits => out.prepend_bitvec_bytes(TAG_BITSTRING, &[117, 13, 65], 18),
+            Element::Bits => out.prepend_bitvec_bytes(TAG_BITSTRING, &[0x75, 0x0d, 0x41], 18),
             Element::NoBits => out.prepend_bitvec_bytes(TAG_BITSTRING, &[], 0),
             Element::Number(bytes, positive) => {
                 out.prepend_bigint_bytes(TAG_INTEGER, bytes, positive)
@@ -35,7 +35,7 @@ impl Element {
 
     fn len(self, mode: BERMode) -> Option<usize> {
         match self {
-            Element::Bits => bitvec_len(mode, TAG_BITSTRING, &[117, 13, 65]),
+            Element::Bits => bitvec_len(mode, TAG_BITSTRING, &[0x75, 0x0d, 0x41]),
             Element::NoBits => bitvec_len(mode, TAG_BITSTRING, &[]),
             Element::Number(bytes, positive) => bigint_len(TAG_INTEGER, bytes, positive),
         }
@@ -51,7 +51,7 @@ static ROWS: [(&str, BERMode, Element, &str); 11] = [
     (
         "0 of two bytes",
         Der,
-        Element::Number(&[0, 0], false),
+        Element::Number(&[0x00, 0x00], false),
         "020100",
     ),
     ("127", Der, Element::Number(&[127], true), "02017f"),
@@ -59,14 +59,14 @@ static ROWS: [(&str, BERMode, Element, &str); 11] = [
     (
         "128 in CER",
         Cer,
-        Element::Number(&[0, 128], true),
+        Element::Number(&[0x00, 0x80], true),
         "02020080",
     ),
     ("-128", Der, Element::Number(&[128], false), "020180"),
     (
         "-128 of two bytes",
         Der,
-        Element::Number(&[255, 128], false),
+        Element::Number(&[0xff, 0x80], false),
         "020180",
     ),
     ("-129", Der, Element::Number(&[127], false), "0202ff7f"),
@@ -165,7 +165,7 @@ fn is_prepended_as_written<T: DERExact>(alloc: Global, bytes: &[u8]) -> ASN1Resu
 
 #[test]
 fn types_without_bodies_are_prepended(rt: HostRuntime) {
-    match is_prepended_as_written::<Encoded<Number>>(rt.alloc(), &[48, 3, 2, 1, 5]) {
+    match is_prepended_as_written::<Encoded<Number>>(rt.alloc(), &[0x30, 0x03, 0x02, 0x01, 0x05]) {
         Ok(true) => {}
         _ => finds_none(&rt, Some("a number in a SEQUENCE")),
     }

@@ -102,20 +102,25 @@ static NUMBERS: [(&str, BERMode, &[u8], Outcome); 4] = [
     (
         "BER takes a long length",
         Ber,
-        &[2, 129, 1, 7],
+        &[0x02, 0x81, 0x01, 0x07],
         Outcome::Read,
     ),
-    ("a callback's own error", Ber, &[2, 1, 100], Outcome::Large),
+    (
+        "a callback's own error",
+        Ber,
+        &[0x02, 0x01, 0x64],
+        Outcome::Large,
+    ),
     (
         "a long length becomes one of its errors",
         BERMode::Cer,
-        &[2, 129, 1, 7],
+        &[0x02, 0x81, 0x01, 0x07],
         Outcome::Encoding,
     ),
     (
         "bytes that are left become one of its errors",
         BERMode::Cer,
-        &[2, 1, 7, 0],
+        &[0x02, 0x01, 0x07, 0x00],
         Outcome::Encoding,
     ),
 ];

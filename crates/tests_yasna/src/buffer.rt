@@ -27,6 +27,6 @@ fn has_bytes_of_number(alloc: Global, input: &[u8], bytes: &[u8]) -> bool {
 
 #[test]
 fn bytes_outlive_their_reading(rt: HostRuntime) {
-    let input = [48, 4, 2, 2, 1, 44];
-    assert!(rt; has_bytes_of_number(rt.alloc(), &input, &[2, 2, 1, 44]));
+    let input = [0x30, 0x04, 0x02, 0x02, 0x01, 0x2c];
+    assert!(rt; has_bytes_of_number(rt.alloc(), &input, &[0x02, 0x02, 0x01, 0x2c]));
 }

@@ -190,31 +190,34 @@ fn are_written(alloc: Global) -> [(&'static str, bool); 7] {
         ),
         (
             "a borrowed number",
-            gives(encode_der(alloc, &ten), &[2, 1, 10]),
+            gives(encode_der(alloc, &ten), &[0x02, 0x01, 0x0a]),
         ),
         (
             "borrowed flags",
-            gives(encode_der(alloc, &flags), &[48, 6, 1, 1, 255, 1, 1, 0]),
+            gives(
+                encode_der(alloc, &flags),
+                &[0x30, 0x06, 0x01, 0x01, 0xff, 0x01, 0x01, 0x00],
+            ),
         ),
         (
             "borrowed numbers",
             gives(
                 encode_der(alloc, &numbers),
-                &[48, 7, 2, 1, 10, 2, 2, 255, 127],
+                &[0x30, 0x07, 0x02, 0x01, 0x0a, 0x02, 0x02, 0xff, 0x7f],
             ),
         ),
         (
             "borrowed octets",
             gives(
                 encode_der(alloc, &octets),
-                &[4, 6, 72, 101, 108, 108, 111, 33],
+                &[0x04, 0x06, 0x48, 0x65, 0x6c, 0x6c, 0x6f, 0x21],
             ),
         ),
         (
             "a borrowed text",
             gives(
                 encode_der(alloc, &text),
-                &[12, 6, 72, 101, 108, 108, 111, 33],
+                &[0x0c, 0x06, 0x48, 0x65, 0x6c, 0x6c, 0x6f, 0x21],
             ),
         ),
     ]

@@ -94,7 +94,7 @@ static ROWS: [Row<RawCase>; 7] = [
     ),
     (
         "a tagged element",
-        RawCase::Element(CONTEXT_0, PCBit::Constructed, &[2, 1, 7]),
+        RawCase::Element(CONTEXT_0, PCBit::Constructed, &[0x02, 0x01, 0x07]),
         Der,
         "A003020107",
         Same,

@@ -104,7 +104,7 @@ fn extension_rewritten(
 ) -> ASN1Result<Vec<u8>> {
     let extension = extension_from_ber(alloc, bytes)?;
     expected(extension.critical == is_critical)?;
-    expected(extension.extn_value.as_slice() == [48, 0].as_slice())?;
+    expected(extension.extn_value.as_slice() == [0x30, 0x00].as_slice())?;
     match mode {
         BERMode::Der => rewritten_extension(alloc, bytes),
         _ => bytes_if(alloc, true, bytes),
@@ -394,7 +394,7 @@ impl Part {
             Part::Signed => {
                 let signed = read_signed(reader)?;
                 expected(signed.serial == 10)?;
-                expected(signed.signed_bytes == [48, 3, 2, 1, 10].as_slice())?;
+                expected(signed.signed_bytes == [0x30, 0x03, 0x02, 0x01, 0x0a].as_slice())?;
                 writer.write_bytes(&signed.signature)
             }
             _ => self.text_copied(alloc, reader, writer),

@@ -422,11 +422,19 @@ fn malformed_input_is_rejected_at_its_offset(rt: HostRuntime) {
 
 // Contents of a string, and whether they are one element.
 static CONTENTS: [(&str, &[u8], bool); 5] = [
-    ("a number", &[2, 1, 10], true),
-    ("a NULL in a SEQUENCE", &[48, 128, 5, 0, 0, 0], true),
+    ("a number", &[0x02, 0x01, 0x0a], true),
+    (
+        "a NULL in a SEQUENCE",
+        &[0x30, 0x80, 0x05, 0x00, 0x00, 0x00],
+        true,
+    ),
     ("nothing", &[], false),
-    ("a zero behind a number", &[2, 1, 10, 0], false),
-    ("a cut number in a SEQUENCE", &[48, 2, 2, 1], false),
+    ("a zero behind a number", &[0x02, 0x01, 0x0a, 0x00], false),
+    (
+        "a cut number in a SEQUENCE",
+        &[0x30, 0x02, 0x02, 0x01],
+        false,
+    ),
 ];
 
 fn is_one(contents: &[u8]) -> bool {

@@ -281,11 +281,11 @@ fn is_read(
 
 // Whether the inner reading fails within its input of two bytes, and the outer one doesn't.
 fn are_exchanged(alloc: Global) -> bool {
-    let longer = [2, 1, 1, 2, 1, 2, 2, 3, 0];
+    let longer = [0x02, 0x01, 0x01, 0x02, 0x01, 0x02, 0x02, 0x03, 0x00];
     let mut in_string = false;
     let outcome = parse_der_located(alloc, &longer, |outer| {
         let mut failed = Ok(());
-        let inner = parse_der_located(alloc, &[5, 0], |other| {
+        let inner = parse_der_located(alloc, &[0x05, 0x00], |other| {
             outer.read_i64()?;
             outer.read_i64()?;
             std::mem::swap(outer, other);
@@ -330,5 +330,9 @@ fn parses_fail_where_elements_are_malformed(rt: HostRuntime) {
     holds(&rt, "exchanged readings", Ok(are_exchanged(rt.alloc())));
     holds(&rt, "a deep element of a SET", is_too_deep(rt.alloc()));
     let line = "ASN1Error { kind: Eof } at offset 2, depth 1";
-    holds(&rt, line, is_line(rt.alloc(), &[48, 3, 2, 2, 7], line));
+    holds(
+        &rt,
+        line,
+        is_line(rt.alloc(), &[0x30, 0x03, 0x02, 0x02, 0x07], line),
+    );
 }

@@ -28,7 +28,7 @@ fn is_named(read: &DirectoryEntry) -> bool {
 fn is_entry(read: &DirectoryEntry) -> bool {
     is_named(read)
         && read.versions.as_slice() == [1, -129].as_slice()
-        && read.picture.as_slice() == [72, 101].as_slice()
+        && read.picture.as_slice() == [0x48, 0x65].as_slice()
         && read.measurement.number == 10
         && read.measurement.valid
         && read.in_use

@@ -137,7 +137,7 @@ static ROWS: [Row<Record>; 13] = [
     ),
     (
         "a report",
-        Record::Report(&[72, 101]),
+        Record::Report(&[0x48, 0x65]),
         Der,
         "300C0C02C3A9040248650202FF7F",
         Same,

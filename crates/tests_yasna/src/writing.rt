@@ -23,7 +23,7 @@ fn is_exchanged(alloc: Global) -> bool {
         writer.write_sequence(|around| {
             around.next().write_bool(true)?;
             around.next().write_sequence(|outer| {
-                is_inner = gives(exchanged(alloc, outer), &[48, 3, 1, 1, 255]);
+                is_inner = gives(exchanged(alloc, outer), &[0x30, 0x03, 0x01, 0x01, 0xff]);
                 Ok(())
             })
         })

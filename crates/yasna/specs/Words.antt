@@ -10,7 +10,7 @@ pub use Rattle.yasna_base.specs.Error.{kind_of, error_of}
 pub use Rattle.yasna_base.specs.Identifier.{universal, context, end_tag, BeginsWithTag, AtEnd}
 pub use Rattle.yasna_base.specs.Digits.{IsBytes}
 -- the types of relations, encodings and depths
-pub use Rattle.yasna_base.specs.Grammar.{Grammar, Members, Encoding, Depth}
+pub use Rattle.yasna_base.specs.Grammar.{Grammar, Members, Encoding, Depth, max_depth}
 -- the laws, and the bytes that encode some value by a relation
 pub use Rattle.yasna_base.specs.Coding.{IsCoding, Any}
 pub use Rattle.yasna_base.specs.Canonical.{IsWritten, HasEncoding, Always, leaf_depth, enclosed_encoding, enclosed_depth, canonical_element}

@@ -8,7 +8,8 @@ use Rattle.yasna_base.specs.declared.mode.BERMode.TheVariants.{Ber, Der, Cer}
 use Rattle.yasna_base.specs.declared.tag.PCBit.TheVariants.{Primitive, Constructed}
 use Rattle.std.specs.Prelude.{if◌then◌else◌, nat_lt}
 use Rattle.yasna_base.specs.declared.tag.Tag.{Tag}
-use Rattle.yasna_base.specs.Bits.{BitString, bits_segmentation, IsBits, AreFullBeforeLast, all_bits, AreBitsJoined, CanBits, AreCanonicalBits, unused_bits, padded, bits_contents, bit_pieces, bit_segments, bits_encoding, bits_depth, BitsKeepLaws, cleared}
+use Rattle.yasna_base.specs.Bits.{BitString, bits_segmentation, IsBits, AreFullBeforeLast, all_bits, AreBitsJoined, CanBits, AreCanonicalBits}
+use Rattle.yasna_base.specs.Bits.{unused_bits, padded, bits_contents, bit_pieces, bit_segments, bits_encoding, bits_depth, BitsKeepLaws, cleared}
 use Rattle.yasna_base.specs.Canonical.{canonical_element, HasEncoding}
 use Rattle.yasna_base.specs.Digits.{IsBytes}
 use Rattle.yasna_base.specs.Segments.{AreSegments, segments}

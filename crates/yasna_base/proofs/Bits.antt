@@ -2,7 +2,8 @@
 use Rattle.std.proofs.Common.{◌≡◌, ℕ, List, ◌∷◌, length, ap, ap₂, ◌∙◌, sym, arith, [], ◌*◌, ◌-◌, ◌%◌, ◌^◌, ◌<◌, ◌≤◌, get_or, suc, refl, subst, length-append, ◌+◌, ◌/◌, ◌++◌}
 use Rattle.yasna_base.specs.declared.mode.BERMode.{BERMode}
 use Rattle.yasna_base.specs.declared.tag.Tag.{Tag}
-use Rattle.yasna_base.specs.Bits.{BitString, AreTheBits, bits_segmentation, IsBits, IsPadded, AreFullBeforeLast, all_bits, CanBits, AreCanonicalBits, unused_bits, padded, bits_contents, AreBitsJoined, cleared, IsFull, MayFollow}
+use Rattle.yasna_base.specs.Bits.{BitString, AreTheBits, bits_segmentation, IsBits, IsPadded, AreFullBeforeLast, all_bits, CanBits, AreCanonicalBits}
+use Rattle.yasna_base.specs.Bits.{unused_bits, padded, bits_contents, AreBitsJoined, cleared, IsFull, MayFollow}
 use Rattle.yasna_base.specs.Coding.{IsCoding, Any}
 use Rattle.yasna_base.specs.Identifier.{end_tag}
 use Rattle.yasna_base.proofs.Segmented.{SegmentsOnce, segmented_coding, segmented_keeps}

@@ -1,5 +1,6 @@
 -- Two's complement, the fewest bytes of a number, and the laws of INTEGER in the types of numbers.
-use Rattle.std.proofs.Common.{◌≡◌, ℕ, ◌+◌, ◌^◌, ◌<◌, ◌≤◌, List, [], ◌∷◌, length, get_or, refl, ap, ◌∙◌, sym, inl, inr, arith, mul-le-mul_right, zero, suc, ◌*◌, add-mul, ◌-◌, ltb, ℤ, pos, negsuc, ◌-ℤ◌, lt-ltb, le-ltb, map, ltb-true, ltb-false}
+use Rattle.std.proofs.Common.{◌≡◌, ℕ, ◌+◌, ◌^◌, ◌<◌, ◌≤◌, List, [], ◌∷◌, length, get_or, refl, ap, ◌∙◌, sym, inl, inr, arith, mul-le-mul_right, zero}
+use Rattle.std.proofs.Common.{suc, ◌*◌, add-mul, ◌-◌, ltb, ℤ, pos, negsuc, ◌-ℤ◌, lt-ltb, le-ltb, map, ltb-true, ltb-false}
 use Rattle.std.proofs.Math.Nat.{pow-le-pow_right, pow-zero, pow-suc}
 use Rattle.std.proofs.lemmas.Bool.{cases_lt, cond-true, cond-false, cases_eq, cond_both}
 use Rattle.std.proofs.lemmas.Int.{ints}

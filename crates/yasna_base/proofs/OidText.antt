@@ -1,5 +1,6 @@
 -- The texts of object identifiers: what each part says, and that what is printed is read again.
-use Rattle.std.proofs.Common.{◌≡◌, ◌≢◌, ◌⊎◌, inl, inr, ℕ, ◌^◌, ◌<◌, List, [], ◌∷◌, ◌++◌, length, get_or, refl, ap, ap₂, false, ◌∙◌, sym, subst, append_assoc, append-nil, arith, All, Result, Ok, Err, MatchResult, Bool, true}
+use Rattle.std.proofs.Common.{◌≡◌, ◌≢◌, ◌⊎◌, inl, inr, ℕ, ◌^◌, ◌<◌, List, [], ◌∷◌, ◌++◌, length, get_or, refl, ap, ap₂, false, ◌∙◌, sym, subst}
+use Rattle.std.proofs.Common.{append_assoc, append-nil, arith, All, Result, Ok, Err, MatchResult, Bool, true}
 use Rattle.std.specs.Fmt.{decimal}
 use Rattle.std.specs.List.{AllByRecursion, AllZip, slice_split, position_or_len, before_first, after_first}
 use Rattle.std.specs.Str.Parse.{IsNumeral, digits_value, without_leading_plus}

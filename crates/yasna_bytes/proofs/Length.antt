@@ -1,5 +1,6 @@
 -- Lengths, by their first byte, and numbers in base 256 (X.690, 8.1.3).
-use Rattle.std.proofs.Common.{◌≡◌, MatchOption, ℕ, ◌+◌, ◌-◌, ◌*◌, ◌^◌, ◌<◌, ◌≤◌, List, [], ◌∷◌, ◌++◌, length, get_or, take, drop, refl, ap, sym, subst, ◌∙◌, arith, Option, Some, None, length-append, take-append-drop, length-drop}
+use Rattle.std.proofs.Common.{◌≡◌, MatchOption, ℕ, ◌+◌, ◌-◌, ◌*◌, ◌^◌, ◌<◌, ◌≤◌, List, [], ◌∷◌, ◌++◌, length, get_or, take, drop, refl, ap, sym, subst}
+use Rattle.std.proofs.Common.{◌∙◌, arith, Option, Some, None, length-append, take-append-drop, length-drop}
 use Rattle.std.proofs.Math.Seq.{drop-append_seam}
 use Rattle.std.specs.Int.Digits.{number_from_digits, number_from_digits_after}
 use Rattle.std.proofs.lemmas.Int.Digits.{number_after_append, number_after_ge}

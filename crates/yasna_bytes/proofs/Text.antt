@@ -1,5 +1,6 @@
 -- Strings whose octets say a value, and texts.
-use Rattle.std.proofs.Common.{◌⊎◌, inl, inr, ℕ, zero, suc, ◌<◌, ◌≤◌, List, [], ◌∷◌, length, true, refl, sym, ap, subst, ◌∙◌, length-append, arith, map, get_or, take, drop, take_all, ◌+◌, ◌-◌, ◌*◌, ◌≡◌, unwrap_or, String, string_bytes}
+use Rattle.std.proofs.Common.{◌⊎◌, inl, inr, ℕ, zero, suc, ◌<◌, ◌≤◌, List, [], ◌∷◌, length, true, refl, sym, ap, subst, ◌∙◌, length-append, arith, map}
+use Rattle.std.proofs.Common.{get_or, take, drop, take_all, ◌+◌, ◌-◌, ◌*◌, ◌≡◌, unwrap_or, String, string_bytes}
 use Rattle.std.proofs.lemmas.Bool.{lt-leb, le-leb, lt-ltb, le-ltb}
 use Rattle.std.proofs.lemmas.Str.{chars_from_encodes, IsUtf8-string_bytes, utf16_chars_lone, utf16_chars_pair}
 use Rattle.std.specs.Global.{Global}

@@ -1,5 +1,6 @@
 -- The table of a walk: the ends of the elements that it is in, and what is found from a place in them.
-use Rattle.std.proofs.Common.{◌≡◌, ◌↔◌, ◌⊎◌, inl, inr, ℕ, zero, suc, ◌+◌, ◌-◌, ◌<◌, ◌≤◌, List, [], ◌∷◌, ◌++◌, length, length-append, length-take, append_assoc, append-nil, take, drop, get_or, refl, sym, ap, set, add-one, ◌∙◌, arith, subst}
+use Rattle.std.proofs.Common.{◌≡◌, ◌↔◌, ◌⊎◌, inl, inr, ℕ, zero, suc, ◌+◌, ◌-◌, ◌<◌, ◌≤◌, List, [], ◌∷◌, ◌++◌, length, length-append, length-take}
+use Rattle.std.proofs.Common.{append_assoc, append-nil, take, drop, get_or, refl, sym, ap, set, add-one, ◌∙◌, arith, subst}
 use Rattle.std.proofs.Math.Seq.{take-append_seam, drop-append_seam}
 use Rattle.std.proofs.lemmas.List.{get_or-set_same, get_or-set_other}
 use Rattle.yasna_base.specs.declared.mode.BERMode.{BERMode}
@@ -15,7 +16,8 @@ use Rattle.yasna_base.specs.declared.tag.Tag.{Tag}
 use Rattle.yasna_base.proofs.Identifier.{identifier_some}
 use Rattle.yasna_bytes.specs.Header.{EndsBefore, NoEnd}
 use Rattle.yasna_bytes.specs.Walk.{Passes, Enters, EndsWithin, Stops, ClosesBefore, MeetsDeep, NotWalked, TakesEnd, IsWalked, following, follows}
-use Rattle.yasna_bytes.proofs.WalkSteps.{before_here, before_first, left_closes, left_deep, passed_closes, passed_deep, entered, entered_more, entered_not_end, entered_deep, deep_entered, closed_stops, deep_stops, stops_deep}
+use Rattle.yasna_bytes.proofs.WalkSteps.{before_here, before_first, left_closes, left_deep, passed_closes, passed_deep, entered, entered_more}
+use Rattle.yasna_bytes.proofs.WalkSteps.{entered_not_end, entered_deep, deep_entered, closed_stops, deep_stops, stops_deep}
 
 -- from s on the innermost elements end, one after the other, and a follows the outermost
 abbrev pub AllClose : BERMode → List ContentsEnd → ℕ → List ℕ → List ℕ → Type 0

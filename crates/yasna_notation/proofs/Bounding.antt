@@ -1,126 +1,38 @@
--- What reading does of a type of which some values alone are taken.
-use Rattle.std.proofs.Common.{◌≡◌, ◌∷◌, ◌++◌, [], ℕ, List, Bool, true, false, Option, Some, None, Ok, Err, inl, inr, refl, sym, ap, subst, ◌∙◌, length, length-append, arith}
+-- What reading does of a type of which some values alone are taken, in each mode the same.
+use Rattle.std.proofs.Common.{◌≡◌, ◌∷◌, [], List, Bool, true, false, Option, Some, None, Ok, Err}
 use Rattle.yasna_base.specs.declared.error.ASN1Error.{ASN1Error}
 use Rattle.yasna_base.specs.declared.error.ASN1ErrorKind.TheVariants.{Invalid}
 use Rattle.yasna_base.specs.declared.tag.Tag.{Tag}
-use Rattle.yasna_base.specs.Beginnings.{BeginsWithOne}
 use Rattle.yasna_base.specs.Coding.{Any}
 use Rattle.yasna_base.specs.Error.{error_of}
 use Rattle.yasna_base.specs.Exact.{Fitting}
 use Rattle.yasna_base.specs.Grammar.{Grammar, Members, Encoding}
-use Rattle.yasna_base.proofs.Identifier.{begins_with}
-use Rattle.yasna_base.proofs.Optional.{unambiguous_before_nothing}
-use Rattle.yasna_bytes.proofs.Rejection.{begins_not_elsewhere}
-use Rattle.yasna_reader.specs.ByTags.{AreElsewhere}
-use Rattle.yasna_reader.specs.Decodes.{Explains, StickyExplains, ParsedValue}
-use Rattle.yasna_reader.specs.State.{Reading, IsFresh, untagged}
+use Rattle.yasna_base.specs.Identifier.{AnyTag}
+use Rattle.yasna_reader.specs.State.{Reading}
 use Rattle.yasna_notation.specs.Bounded.{Within}
-use Rattle.yasna_notation.specs.Notation.{IsNotation, IsNotationUnderTags, DecodesAs, ReadsAs}
-
--- what begins with one of some tags doesn't begin elsewhere
-not_elsewhere : (ts : List Tag) (b r : List ℕ) → BeginsWithOne ts b → AreElsewhere ts (b ++ r) → ⊥
-not_elsewhere [] b r x a = x
-not_elsewhere (t ∷ ts) b r (inl x) a = begins_not_elsewhere (begins_with t b r x) a.0
-not_elsewhere (t ∷ ts) b r (inr x) a = not_elsewhere ts b r x a.1
-
-module _ {A : Type 0} {E : A → A → Type 0} {B : Grammar A} {S : Members} {encoding : Encoding A} {Fits : Fitting A} {Can : A → Type 0} (passes : A → Bool)
-    (alike : (v w : A) → E v w → passes v ≡ passes w) (tags_known : Bool) (ts : List Tag) (may_allocate : Bool) (x : IsNotation tags_known ts E B S encoding Fits Can)
-    (s : Reading) where
-  explains_within : (l : List ℕ) (e : ASN1Error) → Explains may_allocate (S s.mode s.levels) l e → Explains may_allocate (Any (Within passes B) s.mode s.levels) l e
-  explains_within l e h = record {
-    none = λ q b r i k. h.none q b r i (x.coding.meaning.among s.mode s.levels k.0 b k.1.0);
-    memory = h.memory;
-  }
-
-  sticky_within : (l : List ℕ) (k : Option ASN1Error) → StickyExplains may_allocate (S s.mode s.levels) l k → StickyExplains may_allocate (Any (Within passes B) s.mode s.levels) l k
-  sticky_within l None h = tt
-  sticky_within l (Some e) h = explains_within l e h
-
-  -- a value that passes
-  passes_decodes : (v : A) (s' : Reading) → passes v ≡ true → DecodesAs tags_known ts may_allocate B S s (Ok v) s' →
-      DecodesAs tags_known ts may_allocate (Within passes B) (Any (Within passes B)) s (Ok v) s'
-  passes_decodes v s' is h =
-      let k = h.decodes in
-      record {
-        decodes = record { prefix = k.prefix; rest = k.rest; joined = k.joined; member = (k.member, is); left = k.left };
-        no_match = λ _. tt;
-      }
-
-  -- none
-  none_decodes : (e : ASN1Error) (s' : Reading) → DecodesAs {A = A} tags_known ts may_allocate B S s (Err e) s' →
-      DecodesAs {A = A} tags_known ts may_allocate (Within passes B) (Any (Within passes B)) s (Err e) s'
-  none_decodes e s' h =
-      let k = h.decodes.0 in
-      record {
-        decodes = (
-          record { explains = explains_within s.left e k.explains; failed = sticky_within s.left s'.failed k.failed; further = k.further; same = k.same },
-          h.decodes.1,
-        );
-        no_match = h.no_match;
-      }
-
-  -- one that doesn't: no value that does has a front there
-  fails_decodes : (v : A) (s' : Reading) → IsFresh s → passes v ≡ false → DecodesAs tags_known ts may_allocate B S s (Ok v) s' →
-      DecodesAs tags_known ts may_allocate (Within passes B) (Any (Within passes B)) s (Err (error_of Invalid)) s'
-  fails_decodes v s' fresh is h = record {
-    decodes = (
-      record {
-        explains = record { none = λ q b r i j. other b r i j.0 j.1.0 j.1.1; memory = λ q. absurd (cc) };
-        failed = subst (λ z. StickyExplains may_allocate (Any (Within passes B) s.mode s.levels) s.left z) (sym unfailed) tt;
-        further = omega (arith, ap length k.joined, length-append k.prefix k.rest, ap (λ (z : Reading). length z.left) k.left);
-        same = k.left ∙ sym (ap {A = Reading} {B = Reading} (λ z. record s { left = z.left; failed = z.failed }) k.left);
-      },
-      λ a. absurd (unambiguous_before_nothing x.coding s.mode s.levels s.levels k.prefix [] k.rest s.left a here refl (sym k.joined)),
-    );
-    no_match = λ t a. absurd
-        (not_elsewhere ts k.prefix k.rest ((x.begins t).at s.mode s.levels k.prefix here) (subst (AreElsewhere ts) k.joined a));
-  }
-    where
-      k : ParsedValue (B s.mode s.levels) s v s'
-      k = h.decodes
-
-      unfailed : s'.failed ≡ None
-      unfailed = ap (λ (z : Reading). z.failed) k.left ∙ fresh.0
-
-      here : S s.mode s.levels k.prefix
-      here = x.coding.meaning.among s.mode s.levels v k.prefix k.member
-
-      other : (b r : List ℕ) → s.left ≡ b ++ r → (w : A) → B s.mode s.levels w b → passes w ≡ true → ⊥
-      other b r i w p q =
-          let one = x.coding.prefix_free s.mode s.levels s.levels k.prefix b k.rest r here (x.coding.meaning.among s.mode s.levels w b p) (sym k.joined ∙ i) in
-          let equal = x.coding.meaning.exact s.mode s.levels s.levels v w b (subst (λ z. B s.mode s.levels v z) one k.member) p in
-          absurd (let e = alike v w equal in cc)
+use Rattle.yasna_notation.specs.Notation.{IsNotation, IsNotationUnderTags, ReadsAs}
+use Rattle.yasna_notation.proofs.WithinMode.{ReadingLaws, mode_within, mode_outside, mode_none}
 
 module _ {A : Type 0} {E : A → A → Type 0} (B : Option Tag → Grammar A) (S : Option Tag → Members) (encoding : Option Tag → Encoding A) {Fits : Fitting A}
     {Can : A → Type 0} (passes : A → Bool) (alike : (v w : A) → E v w → passes v ≡ passes w) (tags_known : Bool) (ts : List Tag) (retagged may_allocate : Bool)
     (x : IsNotation tags_known ts E (B None) (S None) (encoding None) Fits Can) (y : retagged ≡ true → IsNotationUnderTags E B S encoding Fits Can) (s : Reading) where
+  own : ReadingLaws tags_known ts E (B None) (S None)
+  own = record { coding = x.coding; begins = x.begins }
+
+  others : retagged ≡ true → AnyTag (λ t. ReadingLaws true (t ∷ []) E (B (Some t)) (S (Some t)))
+  others may t not range = let z = y may t not range in record { coding = z.coding; begins = z.begins }
+
   -- a value that passes
   pub read_within : (v : A) (s' : Reading) → passes v ≡ true → ReadsAs tags_known ts retagged may_allocate B S s (Ok v) s' →
       ReadsAs tags_known ts retagged may_allocate (λ u. Within passes (B u)) (λ u. Any (Within passes (B u))) s (Ok v) s'
-  read_within v s' is h = record {
-    fresh = λ fresh. passes_decodes passes alike tags_known ts may_allocate x s v s' is (h.fresh fresh);
-    replaced = λ may t not range failed waits.
-        passes_decodes passes alike true (t ∷ []) may_allocate (y may t not range) (untagged s) v (untagged s') is (h.replaced may t not range failed waits);
-    repeats = λ e failed. absurd (let z = (h.repeats e failed).0 in cc);
-  }
+  read_within v s' is h = mode_within (λ v. v) B S (λ m. passes) (λ m. alike) tags_known ts retagged may_allocate own others s v s' is h
 
   -- one that doesn't
   pub read_outside : (v : A) (s' : Reading) → passes v ≡ false → ReadsAs tags_known ts retagged may_allocate B S s (Ok v) s' →
       ReadsAs tags_known ts retagged may_allocate (λ u. Within passes (B u)) (λ u. Any (Within passes (B u))) s (Err (error_of Invalid)) s'
-  read_outside v s' is h = record {
-    fresh = λ fresh. fails_decodes passes alike tags_known ts may_allocate x s v s' fresh is (h.fresh fresh);
-    replaced = λ may t not range failed waits.
-        fails_decodes passes alike true (t ∷ []) may_allocate (y may t not range) (untagged s) v (untagged s') (failed, refl) is
-        (h.replaced may t not range failed waits);
-    repeats = λ e failed. absurd (let z = (h.repeats e failed).0 in cc);
-  }
+  read_outside v s' is h = mode_outside (λ v. v) B S (λ m. passes) (λ m. alike) tags_known ts retagged may_allocate own others s v s' is h
 
   -- none
   pub read_none : (e : ASN1Error) (s' : Reading) → ReadsAs {A = A} tags_known ts retagged may_allocate B S s (Err e) s' →
       ReadsAs {A = A} tags_known ts retagged may_allocate (λ u. Within passes (B u)) (λ u. Any (Within passes (B u))) s (Err e) s'
-  read_none e s' h = record {
-    fresh = λ fresh. none_decodes passes alike tags_known ts may_allocate x s e s' (h.fresh fresh);
-    replaced = λ may t not range failed waits.
-        none_decodes passes alike true (t ∷ []) may_allocate (y may t not range) (untagged s) e (untagged s') (h.replaced may t not range failed waits);
-    repeats = h.repeats;
-  }
+  read_none e s' h = mode_none {U = A} (λ v. v) B S (λ m. passes) (λ m. alike) tags_known ts retagged may_allocate own others s e s' h

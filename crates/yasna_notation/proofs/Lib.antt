@@ -6,6 +6,7 @@ pub mod Contents
 pub mod Represented
 pub mod Found
 pub mod Chosen
+pub mod WithinMode
 pub mod Bounding
 pub mod SetParts
 pub mod FirstBytes

@@ -26,7 +26,7 @@ use Rattle.yasna_base.specs.Grammar.{Grammar, Members, Encoding}
 use Rattle.yasna_base.specs.Identifier.{class_number, identifier, end_tag, BeginsWithTag, begins, tag_or}
 use Rattle.yasna_base.specs.Integer.{IsSigned, IsUnsigned, integer_encoding}
 use Rattle.yasna_base.specs.Null.{IsNull, null_encoding}
-use Rattle.yasna_base.specs.Octets.{IsOctets, octets_segmentation, octets_encoding, octets_depth}
+use Rattle.yasna_base.specs.Octets.{IsOctets, octets_full, octets_segmentation, octets_encoding, octets_depth}
 use Rattle.yasna_base.specs.Oid.{AreComponents, IsEncodableOid, oid_encoding}
 use Rattle.yasna_base.specs.Pieces.{Each}
 use Rattle.yasna_base.specs.Raw.{RawValue, IsRaw, raw_cer_encoding, raw_encoding}
@@ -237,7 +237,7 @@ string_non_empty k contents cut t Der v = element_non_empty _ _ _ _
 string_non_empty k contents cut t Cer v = whole_or_cut_non_empty _ _ _ (element_non_empty _ _ _ _) (element_non_empty _ _ _ _)
 
 pub octets_non_empty : (t : Tag) (m : BERMode) (v : List ℕ) → octets_encoding t m v ≡ [] → ⊥
-octets_non_empty = string_non_empty octets_segmentation (λ v. v) (segments 1000)
+octets_non_empty = string_non_empty octets_segmentation (λ v. v) (segments octets_full)
 
 pub bits_non_empty : (t : Tag) (m : BERMode) (v : BitString) → bits_encoding t m v ≡ [] → ⊥
 bits_non_empty = string_non_empty bits_segmentation bits_contents bit_segments

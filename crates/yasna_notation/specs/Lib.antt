@@ -4,6 +4,7 @@ pub mod Making
 pub mod Parts
 pub mod Choices
 pub mod Bounded
+pub mod WithinMode
 pub mod Sets
 pub mod Canonical
 pub mod Writing

@@ -23,7 +23,7 @@ use Rattle.yasna_notation.specs.Laws.{string_begins}
 use Rattle.yasna_notation.specs.Notation.{ReadsAs}
 use Rattle.yasna_notation.proofs.OneTag.{allocating_read}
 use Rattle.yasna_notation_tags.specs.Bmp.{EncodesBmp, is_known, has_known, encodes_bmp_coding}
-use Rattle.yasna_notation_tags.proofs.WithinMode.{Begun, mode_within, mode_outside, mode_none}
+use Rattle.yasna_notation.proofs.WithinMode.{ReadingLaws, mode_within, mode_outside, mode_none}
 
 abbrev B : Option Tag → Grammar (String Global)
 B u = EncodesBmp (tag_or u bmp_tag)
@@ -31,7 +31,7 @@ B u = EncodesBmp (tag_or u bmp_tag)
 abbrev S : Option Tag → Members
 S u = Any (IsStringOf IsBmp (tag_or u bmp_tag))
 
-begun : (t : Tag) → (t ≡ end_tag → ⊥) → Begun true (t ∷ []) (λ v w. characters v ≡ characters w) (EncodesBmp t) (Any (IsStringOf IsBmp t))
+begun : (t : Tag) → (t ≡ end_tag → ⊥) → ReadingLaws true (t ∷ []) (λ v w. characters v ≡ characters w) (EncodesBmp t) (Any (IsStringOf IsBmp t))
 begun t other = record { coding = encodes_bmp_coding t other; begins = λ _. begins_by_tag t (string_begins IsBmp t) }
 
 alike : (m : BERMode) (v w : String Global) → characters v ≡ characters w → has_known v ≡ has_known w
@@ -49,13 +49,13 @@ module _ (s : Reading) (r : Result (String Global) ASN1Error) (s' : Reading)
   any_text = allocating_read (IsStringOf IsBmp) characters IsDeepOctets bmp_tag other_30 (λ t n m z. deep_begins octets_segmentation n m t z) s r s' h
 
   pub known_read : (v : String Global) → r ≡ Ok v → has_known v ≡ true → ReadsKnown (Ok v)
-  known_read v was is = mode_within B S (λ m. has_known) alike true (bmp_tag ∷ []) true true (begun bmp_tag other_30) (λ _ t other range. begun t other) s v s' is
+  known_read v was is = mode_within (λ v. v) B S (λ m. has_known) alike true (bmp_tag ∷ []) true true (begun bmp_tag other_30) (λ _ t other range. begun t other) s v s' is
       (subst (λ z. ReadsAs true (bmp_tag ∷ []) true true B S s z s') was any_text)
 
   pub unknown_read : (v : String Global) → r ≡ Ok v → has_known v ≡ false → ReadsKnown (Err (error_of Invalid))
-  unknown_read v was is = mode_outside B S (λ m. has_known) alike true (bmp_tag ∷ []) true true (begun bmp_tag other_30) (λ _ t other range. begun t other) s v s' is
+  unknown_read v was is = mode_outside (λ v. v) B S (λ m. has_known) alike true (bmp_tag ∷ []) true true (begun bmp_tag other_30) (λ _ t other range. begun t other) s v s' is
       (subst (λ z. ReadsAs true (bmp_tag ∷ []) true true B S s z s') was any_text)
 
   pub no_text_read : (e : ASN1Error) → r ≡ Err e → ReadsKnown (Err e)
-  no_text_read e was = mode_none B S (λ m. has_known) alike true (bmp_tag ∷ []) true true (begun bmp_tag other_30) (λ _ t other range. begun t other) s e s'
+  no_text_read e was = mode_none {U = String Global} (λ v. v) B S (λ m. has_known) alike true (bmp_tag ∷ []) true true (begun bmp_tag other_30) (λ _ t other range. begun t other) s e s'
       (subst (λ z. ReadsAs {A = String Global} true (bmp_tag ∷ []) true true B S s z s') was any_text)

@@ -1,2 +1,1 @@
 pub mod Bmp
-pub mod WithinMode

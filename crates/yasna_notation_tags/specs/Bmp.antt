@@ -22,7 +22,7 @@ use Rattle.yasna_base.proofs.Texts.{string_text}
 use Rattle.yasna_notation.specs.Bounded.{Within}
 use Rattle.yasna_notation.specs.Canonical.{IsWrittenUnderTags}
 use Rattle.yasna_notation.specs.Laws.{octets_non_empty, string_begins}
-use Rattle.yasna_notation_tags.specs.WithinMode.{within_mode_coding}
+use Rattle.yasna_notation.specs.WithinMode.{within_mode_coding}
 
 -- b encodes a string with the tag t, as `yasna` reads it
 abbrev pub EncodesBmp : TaggedGrammar (String Global)

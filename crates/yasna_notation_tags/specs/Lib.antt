@@ -1,4 +1,3 @@
 pub mod Bmp
 pub mod Making
 pub mod Tags
-pub mod WithinMode

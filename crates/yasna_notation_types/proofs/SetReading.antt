@@ -1,5 +1,6 @@
 -- What reading the parts of a SET does: each is chosen by its tag from the elements that were found.
-use Rattle.std.proofs.Common.{◌≡◌, ◌∷◌, ◌++◌, [], ◌<◌, ◌≤◌, ℕ, zero, suc, List, Bool, true, false, Option, Some, None, Result, Ok, Err, inl, inr, length, refl, sym, ap, ap₂, subst, ◌∙◌, append-nil, length-append, take, drop, arith}
+use Rattle.std.proofs.Common.{◌≡◌, ◌∷◌, ◌++◌, [], ◌<◌, ◌≤◌, ℕ, zero, suc, List, Bool, true, false, Option, Some, None, Result, Ok, Err, inl, inr}
+use Rattle.std.proofs.Common.{length, refl, sym, ap, ap₂, subst, ◌∙◌, append-nil, length-append, take, drop, arith}
 use Rattle.std.specs.Borrow.{MutBor}
 use Rattle.std.specs.Fn.{Once, FnOnceReturnsAtMut}
 use Rattle.std.specs.List.{AllByRecursion, Contains}
@@ -39,7 +40,8 @@ use Rattle.yasna_notation.specs.declared.choices.Either.TheVariants.{First, Seco
 use Rattle.yasna_notation.specs.Choices.{sides}
 use Rattle.yasna_notation.proofs.Contents.{paired}
 use Rattle.yasna.proofs.Closures.{by_run}
-use Rattle.yasna_notation_types.specs.SetParts.{Pieced, PickOf, OptionPick, DefaultPick, UnlessDefault, PickMaybe, AreSetParts, AreSingleElements, tags_precede, all_others, pick_once, others_without, tagged, unless_default, not_both}
+use Rattle.yasna_notation_types.specs.SetParts.{Pieced, PickOf, OptionPick, DefaultPick, OmitsDefault, PickMaybe, AreSetParts, AreSingleElements}
+use Rattle.yasna_notation_types.specs.SetParts.{tags_precede, all_others, pick_once, others_without, tagged, omits_default, not_both}
 use Rattle.yasna_notation_types.specs.SetReading.{encodings_of, AreFound, set_result, ReadsPicks, ReadsSetParts, Chose, ChoseNone, ChoseWrong, ChosenIs, ReadsSetPart, value_or_default, as_second}
 
 -- an element was read to its end
@@ -590,8 +592,8 @@ module _ {A V : Type 0} {ts us : List Tag} {E : A → A → Type 0} {F : V → V
   abbrev qs : List (List ℕ)
   qs = encodings_of c.list.items
 
-  abbrev z : IsCoding E (UnlessDefault is B) S
-  z = unless_default is x
+  abbrev z : IsCoding E (OmitsDefault is B) S
+  z = omits_default is x
 
   default_is : (q : Result (Option A) ASN1Error) → r ≡ q → IsFresh c.reader → AreFound l k c.list.items → ChosenIs B S ts c q c1
   default_is q e fresh found = subst (λ w. ChosenIs B S ts c w c1) e (h.reads fresh found)
@@ -633,7 +635,7 @@ module _ {A V : Type 0} {ts us : List Tag} {E : A → A → Type 0} {F : V → V
   }
   default_rejected None at none_is e = absurd (cc)
 
-  default_both : (v : A) (w : Result V ASN1Error) → Chose (UnlessDefault is B k l) ts c v c1 → ReadsPicks (P k l) (encodings_of c1.list.items) w →
+  default_both : (v : A) (w : Result V ASN1Error) → Chose (OmitsDefault is B k l) ts c v c1 → ReadsPicks (P k l) (encodings_of c1.list.items) w →
       ReadsPicks (DefaultPick is B P k l) qs (paired v w)
   default_both v (Ok w) i j = inl (both z begins whole y above none c c1 v (Ok w) i j)
   default_both v (Err e) i j = λ q u p. by_part q u p
@@ -658,7 +660,7 @@ module _ {A V : Type 0} {ts us : List Tag} {E : A → A → Type 0} {F : V → V
         let i = default_is (Ok (Some v)) at fresh found in
         let mode = ap (λ (u : Reading). u.mode) i.reader in
         let j = accepted is d k v w (subst (λ o. value_or_default is d o (Some v) ≡ Some w) mode value) in
-        let encoded : Chose (UnlessDefault is B k l) ts c v c1 = record {
+        let encoded : Chose (OmitsDefault is B k l) ts c v c1 = record {
           before = i.before;
           one = i.one;
           after = i.after;

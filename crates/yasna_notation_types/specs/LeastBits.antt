@@ -24,7 +24,8 @@ use Rattle.yasna_bytes.specs.Segments.{bits_in}
 use Rattle.yasna_notation.specs.Canonical.{IsWrittenUnderTags, element_written, represented_written}
 use Rattle.yasna_notation.specs.Laws.{element_lawful, represented_lawful}
 use Rattle.yasna_notation.specs.Notation.{NotationKeepsLaws, IsWrittenAs}
-use Rattle.yasna_notation_types.specs.NamedBits.{ends_in_one, ends_well, last_bit, WithinMode, EncodesBits, named_bits_begin, named_bits_laws}
+use Rattle.yasna_notation.specs.WithinMode.{WithinMode}
+use Rattle.yasna_notation_types.specs.NamedBits.{ends_in_one, ends_well, last_bit, EncodesBits, named_bits_begin, named_bits_laws}
 use Rattle.yasna_notation_types.specs.PlainBits.{can_again}
 
 -- the bit at a place; the first bit of a byte is its highest, and after the last byte all bits are zero

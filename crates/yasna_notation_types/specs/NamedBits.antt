@@ -16,6 +16,7 @@ use Rattle.yasna_base.proofs.UnderTags.{bits_under_tags}
 use Rattle.yasna_bytes.specs.Segments.{bits_in}
 use Rattle.yasna_notation.specs.Laws.{bits_begin, element_lawful, represented_lawful}
 use Rattle.yasna_notation.specs.Notation.{NotationKeepsLaws}
+use Rattle.yasna_notation.specs.WithinMode.{WithinMode, within_mode_coding}
 
 -- the last bit; the first bit of a byte is its highest
 abbrev pub last_bit : BitString → ℕ
@@ -31,10 +32,6 @@ ends_well Ber v = true
 ends_well Der v = ends_in_one v
 ends_well Cer v = ends_in_one v
 
--- b encodes a value by B, and the value passes the test of the mode
-abbrev pub WithinMode : {A : Type 0} → (BERMode → A → Bool) → Grammar A → Grammar A
-WithinMode passes B m n v b = B m n v b × (passes m v ≡ true)
-
 every_mode : (m : BERMode) (v : BitString) → ends_in_one v ≡ true → ends_well m v ≡ true
 every_mode Ber v e = refl
 every_mode Der v e = e
@@ -44,19 +41,6 @@ canonical_end : (m : BERMode) (v : BitString) → IsCanonicalMode m → ends_wel
 canonical_end Ber v c e = absurd c
 canonical_end Der v c e = e
 canonical_end Cer v c e = e
-
-within_mode_coding : {A : Type 0} {E : A → A → Type 0} {B : Grammar A} {S : Members} (passes : BERMode → A → Bool) → IsCoding E B S →
-    IsCoding E (WithinMode passes B) (Any (WithinMode passes B))
-within_mode_coding passes x = record {
-  meaning = record {
-    equal = x.meaning.equal;
-    among = λ m n v b p. (v, p);
-    exact = λ m n k v w b p q. x.meaning.exact m n k v w b p.0 q.0;
-    deeper = λ m n k v b le p. (x.meaning.deeper m n k v b le p.0, p.1);
-  };
-  opens = λ m n b p. x.opens m n b (x.meaning.among m n p.0 b p.1.0);
-  prefix_free = λ m n k b c r s p q. x.prefix_free m n k b c r s (x.meaning.among m n p.0 b p.1.0) (x.meaning.among m k q.0 c q.1.0);
-}
 
 -- a value that has an encoding in a canonical mode: it ends in a one
 abbrev pub named_fits : Fitting BitString

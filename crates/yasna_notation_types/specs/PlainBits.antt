@@ -6,7 +6,7 @@ use Rattle.yasna_base.specs.declared.mode.BERMode.{BERMode}
 use Rattle.yasna_base.specs.declared.mode.BERMode.TheVariants.{Ber, Der, Cer}
 use Rattle.yasna_base.specs.declared.tag.PCBit.TheVariants.{Primitive, Constructed}
 use Rattle.yasna_base.specs.declared.tag.Tag.{Tag}
-use Rattle.yasna_base.specs.Bits.{BitString, IsBits, bits_segmentation, bits_encoding, bits_depth, CanBits, AreCanonicalBits, cleared, padded, unused_bits, bits_contents, bit_segments, bit_pieces, BitLaws}
+use Rattle.yasna_base.specs.Bits.{BitString, IsBits, bits_full, bits_segmentation, bits_encoding, bits_depth, CanBits, AreCanonicalBits, cleared, padded, unused_bits, bits_contents, bit_segments, bit_pieces, BitLaws}
 use Rattle.yasna_base.specs.Canonical.{IsCanonicalMode, HoldsEncoding, canonical_element}
 use Rattle.yasna_base.specs.Coding.{IsCoding, Any}
 use Rattle.yasna_base.specs.Digits.{IsBytes}
@@ -90,7 +90,7 @@ depth_again Der v w e = refl
 depth_again Cer v w e =
     let one : length v.bytes ≡ length w.bytes =
     sym (padded_length (unused_bits v) v.bytes) ∙ ap (λ (x : BitString). length x.bytes) e ∙ padded_length (unused_bits w) w.bytes in
-    ap (λ n. if nat_lt 999 n then 2 else 1) one
+    ap (λ n. if nat_lt bits_full n then 2 else 1) one
 
 module _ (t : Tag) (laws : BitLaws t) where
   plain_coding : IsCoding same_used (EncodesUsed t) (Any (IsBits t))

@@ -4,5 +4,5 @@ use Rattle.yasna_base.specs.declared.tag.Tag.{Tag}
 use Rattle.yasna_base.specs.Boolean.{boolean_tag}
 use Rattle.yasna_base.specs.Identifier.{context}
 
-abbrev pub known : List Tag
-known = boolean_tag ∷ context 0 ∷ []
+abbrev pub profile_tags : List Tag
+profile_tags = boolean_tag ∷ context 0 ∷ []

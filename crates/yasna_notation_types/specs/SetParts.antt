@@ -70,12 +70,12 @@ abbrev pub OptionPick : {A V : Type 0} → Grammar A → Pieced V → Pieced (Op
 OptionPick B P m n v ps = PickMaybe (B m n) (P m n v.1) v.0 ps
 
 -- an encoding that is there: in DER and CER it isn't that of the default
-abbrev pub UnlessDefault : {A : Type 0} → (A → Bool) → Grammar A → Grammar A
-UnlessDefault is B m n v b = B m n v b × (TakesDefault m ⊎ (is v ≡ false))
+abbrev pub OmitsDefault : {A : Type 0} → (A → Bool) → Grammar A → Grammar A
+OmitsDefault is B m n v b = B m n v b × (TakesDefault m ⊎ (is v ≡ false))
 
 -- one of them encodes a part with a default, or the part is omitted and the value is the default
 abbrev pub DefaultPick : {A V : Type 0} → (A → Bool) → Grammar A → Pieced V → Pieced (A × V)
-DefaultPick is B P m n v ps = PickOf (UnlessDefault is B) P m n v ps ⊎ (P m n v.1 ps × (is v.0 ≡ true))
+DefaultPick is B P m n v ps = PickOf (OmitsDefault is B) P m n v ps ⊎ (P m n v.1 ps × (is v.0 ≡ true))
 
 -- the tags with which they begin are in the order that the mode requires of a SET
 pub record InTagOrder (m : BERMode) (ps : List (List ℕ)) : Type 0 where
@@ -436,8 +436,8 @@ module _ {A V : Type 0} {ts us : List Tag} {E : A → A → Type 0} {F : V → V
   }
 
 -- an encoding that is there is an encoding
-abbrev pub unless_default : {A : Type 0} {E : A → A → Type 0} {B : Grammar A} {S : Members} (is : A → Bool) → IsCoding E B S → IsCoding E (UnlessDefault is B) S
-unless_default is x = record {
+abbrev pub omits_default : {A : Type 0} {E : A → A → Type 0} {B : Grammar A} {S : Members} (is : A → Bool) → IsCoding E B S → IsCoding E (OmitsDefault is B) S
+omits_default is x = record {
   meaning = record {
     equal = x.meaning.equal;
     among = λ m n v b p. x.meaning.among m n v b p.0;
@@ -451,8 +451,8 @@ unless_default is x = record {
 module _ {A V : Type 0} {ts us : List Tag} {E : A → A → Type 0} {F : V → V → Type 0} {B : Grammar A} {C : Grammar V} {S M : Members}
     {P : Pieced V} (is : A → Bool) (d : A) (detects : DetectsDefault E is d) (x : IsCoding E B S) (begins : BeginsBy ts S)
     (whole : AreSingleElements S) (y : AreSetParts us F C P M) (above : tags_precede ts us ≡ true) (none : share_none ts us ≡ true) where
-  abbrev z : IsCoding E (UnlessDefault is B) S
-  z = unless_default is x
+  abbrev z : IsCoding E (OmitsDefault is B) S
+  z = omits_default is x
 
   default_within : (m : BERMode) (n : ℕ) (v : A × V) (ps : List (List ℕ)) → DefaultPick is B P m n v ps → AllByRecursion (AnyEither S M m n) ps
   default_within m n v ps (inl p) = part_within z begins whole y above none m n v ps p

@@ -14,33 +14,33 @@ abbrev pub is_one_of : List ℤ → ℤ → Bool
 is_one_of ns z = list_any (int_eq z) ns
 
 -- the number of each
-abbrev pub status_number : ResponseStatus → ℤ
-status_number Successful = pos 0
-status_number MalformedRequest = pos 1
-status_number TryLater = pos 3
-status_number SigRequired = pos 5
+abbrev pub response_number : ResponseStatus → ℤ
+response_number Successful = pos 0
+response_number MalformedRequest = pos 1
+response_number TryLater = pos 3
+response_number SigRequired = pos 5
 
 abbrev pub is_status : ℤ → Bool
 is_status = is_one_of (pos 0 ∷ pos 1 ∷ pos 3 ∷ pos 5 ∷ [])
 
-pub status_writable : (v : ResponseStatus) → Unit {0} ↔ (FitsSigned w64 (status_number v) × (is_status (status_number v) ≡ true))
-status_writable Successful = (λ u. (omega arith, refl), λ x. tt)
-status_writable MalformedRequest = (λ u. (omega arith, refl), λ x. tt)
-status_writable TryLater = (λ u. (omega arith, refl), λ x. tt)
-status_writable SigRequired = (λ u. (omega arith, refl), λ x. tt)
+pub response_writable : (v : ResponseStatus) → Unit {0} ↔ (FitsSigned w64 (response_number v) × (is_status (response_number v) ≡ true))
+response_writable Successful = (λ u. (omega arith, refl), λ x. tt)
+response_writable MalformedRequest = (λ u. (omega arith, refl), λ x. tt)
+response_writable TryLater = (λ u. (omega arith, refl), λ x. tt)
+response_writable SigRequired = (λ u. (omega arith, refl), λ x. tt)
 
 -- the number of each; a value that the module doesn't name holds its number
-abbrev pub code_number : ResultCode → ℤ
-code_number Success = pos 0
-code_number Busy = pos 51
-code_number (Other n) = n
+abbrev pub result_number : ResultCode → ℤ
+result_number Success = pos 0
+result_number Busy = pos 51
+result_number (Other n) = n
 
 -- each number is that of a value
 abbrev pub any_code : ℤ → Bool
 any_code z = true
 
-abbrev pub code_allowed : ResultCode → Type 0
-code_allowed v = FitsSigned w64 (code_number v)
+abbrev pub result_allowed : ResultCode → Type 0
+result_allowed v = FitsSigned w64 (result_number v)
 
-pub code_writable : (v : ResultCode) → code_allowed v ↔ (FitsSigned w64 (code_number v) × (any_code (code_number v) ≡ true))
-code_writable v = (λ f. (f, refl), λ x. x.0)
+pub result_writable : (v : ResultCode) → result_allowed v ↔ (FitsSigned w64 (result_number v) × (any_code (result_number v) ≡ true))
+result_writable v = (λ f. (f, refl), λ x. x.0)

@@ -6,7 +6,8 @@ ghost use Rattle.yasna_base.specs.Exact.{written_fits};
 ghost use Rattle.yasna_base.specs.Identifier.{tag_or};
 ghost use Rattle.yasna_bytes.specs.Segments.{bits_in};
 ghost use Rattle.yasna_notation.specs.Laws.{bits_non_empty};
-ghost use Rattle.yasna_notation_types.specs.NamedBits.{WithinMode, EncodesBits, ends_well};
+ghost use Rattle.yasna_notation.specs.WithinMode.{WithinMode};
+ghost use Rattle.yasna_notation_types.specs.NamedBits.{EncodesBits, ends_well};
 ghost use Rattle.yasna_notation_types.specs.LeastBits.{EncodesLeast, CanLeast, least, least_encoding, least_depth, same_least, bits_left, bit_at, least_lawful, least_writes};
 
 use crate::named_bits::NamedBits;

@@ -5,7 +5,8 @@ ghost use Rattle.yasna_base.specs.Coding.{Any};
 ghost use Rattle.yasna_base.specs.Identifier.{tag_or};
 ghost use Rattle.yasna_bytes.specs.Segments.{bits_in};
 ghost use Rattle.yasna_notation.specs.Laws.{bits_non_empty};
-ghost use Rattle.yasna_notation_types.specs.NamedBits.{WithinMode, EncodesBits, ends_in_one, ends_well, named_fits, named_bits_lawful};
+ghost use Rattle.yasna_notation.specs.WithinMode.{WithinMode};
+ghost use Rattle.yasna_notation_types.specs.NamedBits.{EncodesBits, ends_in_one, ends_well, named_fits, named_bits_lawful};
 
 use yasna_base::tags::TAG_BITSTRING;
 use yasna_base::{ASN1Error, ASN1ErrorKind, ASN1Result, BERMode, Tag};

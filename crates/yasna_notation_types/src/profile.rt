@@ -7,7 +7,7 @@ ghost use Rattle.std.specs.Prelude.{◌≡◌, refl};
 ghost use Rattle.std.proofs.Common.{arith};
 ghost use Rattle.std.specs.Prelude.{◌∷◌, [], false, not};
 ghost use Rattle.yasna_notation.specs.Parts.{detects_false};
-ghost use Rattle.yasna_notation_types.specs.Profile.{known};
+ghost use Rattle.yasna_notation_types.specs.Profile.{profile_tags};
 ghost use Rattle.yasna_notation.specs.Laws.{represented_lawful, element_non_empty};
 ghost use Rattle.yasna_notation.specs.Making.{context, in_implicit, in_sequence, part};
 ghost use Rattle.yasna_notation.specs.Notation.{represented_by};
@@ -98,10 +98,10 @@ impl Notation for Profile {
 
     ghost lawful = { λ _. represented_lawful ⟦<Profile as Represents<Fields>>⟧.value_of (in_sequence
         (part (int64 refl).own
-        (possible_default (possible_may (context 0 ∷ []) (other_may known)) not false detects_false refl (boolean refl).own
-        (possible (other_may known) refl (in_implicit 0 (omega arith) (boolean refl)).own (others_laws known any_lawful.own)
-        (others_within known any_lawful.own.coding))
-        (possible_within (other_may known) (in_implicit 0 (omega arith) (boolean refl)).own (others_within known any_lawful.own.coding))))) };
+        (possible_default (possible_may (context 0 ∷ []) (other_may profile_tags)) not false detects_false refl (boolean refl).own
+        (possible (other_may profile_tags) refl (in_implicit 0 (omega arith) (boolean refl)).own (others_laws profile_tags any_lawful.own)
+        (others_within profile_tags any_lawful.own.coding))
+        (possible_within (other_may profile_tags) (in_implicit 0 (omega arith) (boolean refl)).own (others_within profile_tags any_lawful.own.coding))))) };
 
     ghost non_empty = { λ u m v. element_non_empty _ _ _ _ };
 }

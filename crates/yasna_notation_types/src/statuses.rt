@@ -1,6 +1,6 @@
 //! Examples of `Numbered`: two enums.
 ghost use Rattle.yasna_base.specs.Canonical.{Always};
-ghost use Rattle.yasna_notation_types.specs.Statuses.{status_number, is_status, status_writable, code_number, any_code, code_allowed, code_writable};
+ghost use Rattle.yasna_notation_types.specs.Statuses.{response_number, is_status, response_writable, result_number, any_code, result_allowed, result_writable};
 
 use crate::named::Numbered;
 
@@ -14,7 +14,7 @@ pub enum ResponseStatus {
 }
 
 impl Numbered for ResponseStatus {
-    ghost number_of = { status_number };
+    ghost number_of = { response_number };
 
     ghost named = { is_status };
 
@@ -39,7 +39,7 @@ impl Numbered for ResponseStatus {
         }
     }
 
-    ghost writable = { status_writable };
+    ghost writable = { response_writable };
 }
 
 /// `ENUMERATED { success (0), busy (51), ... }`
@@ -52,11 +52,11 @@ pub enum ResultCode {
 }
 
 impl Numbered for ResultCode {
-    ghost number_of = { code_number };
+    ghost number_of = { result_number };
 
     ghost named = { any_code };
 
-    ghost allowed = { code_allowed };
+    ghost allowed = { result_allowed };
 
     fn number(&self) -> i64 {
         match self {
@@ -74,5 +74,5 @@ impl Numbered for ResultCode {
         }
     }
 
-    ghost writable = { code_writable };
+    ghost writable = { result_writable };
 }

@@ -74,8 +74,8 @@ static NUMBERS: [(&str, &[u8], bool, bool); 9] = [
         true,
         false,
     ),
-    ("a zero octet that is needed", &[0, 0x80], true, true),
-    ("a zero octet that isn't", &[0, 0x7f], true, false),
+    ("a zero octet that is needed", &[0x00, 0x80], true, true),
+    ("a zero octet that isn't", &[0x00, 0x7f], true, false),
     (
         "an octet of ones that is needed",
         &[0xff, 0x7f],
@@ -91,7 +91,7 @@ static BITS: [(&str, &[u8], usize, bool); 7] = [
     ("one bit", &[0x80], 1, true),
     ("eight bits", &[0xff], 8, true),
     ("nine bits in one octet", &[0xff], 9, false),
-    ("eight bits in two octets", &[0xff, 0], 8, false),
+    ("eight bits in two octets", &[0xff, 0x00], 8, false),
     (
         "more bits than any octets hold",
         &[0xff],
@@ -276,8 +276,14 @@ fn bounds_and_lists_are_tested(rt: HostRuntime) {
             "one beyond its bound",
             accepts_lists(alloc, &[0, 8]) == Some((false, false, false)),
         ),
-        ("two octets", accepts_octets(alloc, &[1, 2]) == Some(true)),
-        ("three", accepts_octets(alloc, &[1, 2, 3]) == Some(false)),
+        (
+            "two octets",
+            accepts_octets(alloc, &[0x01, 0x02]) == Some(true),
+        ),
+        (
+            "three",
+            accepts_octets(alloc, &[0x01, 0x02, 0x03]) == Some(false),
+        ),
         ("the first type", Types::accepts(&Either::First(7))),
         (
             "the first type beyond its bound",

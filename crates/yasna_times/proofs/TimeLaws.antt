@@ -5,7 +5,8 @@ use Rattle.yasna_times.specs.declared.models.utc_time.UTCTime.{UTCTime}
 use Rattle.yasna_base.specs.declared.tag.Tag.{Tag}
 use Rattle.yasna_base.specs.Canonical.{Always, IsWritten}
 use Rattle.yasna_base.specs.Coding.{IsCoding, Any}
-use Rattle.yasna_times.specs.GeneralizedTime.{IsGeneralMoment, SpellsGeneralizedTime, EncodesGeneralizedTime, GeneralizedTimeKeepsLaws, general_text, generalized_time_encoding, generalized_time_depth, generalized_time_tag}
+use Rattle.yasna_times.specs.GeneralizedTime.{IsGeneralMoment, SpellsGeneralizedTime, EncodesGeneralizedTime, GeneralizedTimeKeepsLaws, general_text}
+use Rattle.yasna_times.specs.GeneralizedTime.{generalized_time_encoding, generalized_time_depth, generalized_time_tag}
 use Rattle.yasna_times.specs.Models.{utc_of, moment_of, EncodesUtc, EncodesGeneral}
 use Rattle.yasna_base.specs.Text.{IsStringOf}
 use Rattle.yasna_times.specs.UtcTime.{IsUtcDateTime, SpellsUtcTime, EncodesUtcTime, UtcTimeKeepsLaws, utc_text, utc_time_encoding, utc_time_depth, utc_time_tag}

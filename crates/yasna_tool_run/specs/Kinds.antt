@@ -18,7 +18,7 @@ use Rattle.yasna.specs.base.Text.{EncodesText, utf8_encoding}
 use Rattle.yasna_tool_run.specs.declared.value_type.ValueType.{ValueType}
 use Rattle.yasna_tool_run.specs.declared.value_type.ValueType.TheVariants as kind
 use Rattle.yasna.specs.base.Boolean.{boolean_tag}
-use Rattle.yasna.specs.base.Grammar.{Grammar, Encoding}
+use Rattle.yasna.specs.base.Grammar.{Grammar, Encoding, max_depth}
 use Rattle.yasna.specs.base.Integer.{integer_tag}
 use Rattle.yasna.specs.base.Null.{null_tag}
 use Rattle.yasna.specs.base.Oid.{oid_tag}
@@ -29,7 +29,7 @@ use Rattle.yasna.specs.time.UtcTime.{utc_time_tag}
 -- s encodes a value in the mode m, and out is its DER encoding
 pub record Recoded {A : Type 0} (B : Grammar A) (encoding : Encoding A) (m : BERMode) (s out : List ℕ) : Type 0 where
   pub value : A
-  pub read : B m 101 value s
+  pub read : B m max_depth value s
   pub written : out ≡ encoding Der value
 
 -- a SEQUENCE of an INTEGER and a BOOLEAN

@@ -2,6 +2,7 @@
 ghost use Rattle.std.specs.Prelude.{◌≡◌, ◌≢◌, ◌-◌, ◌^◌, ◌<◌, ◌⊎◌, true, IfOk, OnOk, OnErr, IfSome};
 ghost use Rattle.std.specs.Io.KnownBytes.{Appends, Consumes, IsAtEnd, Keeps};
 ghost use Rattle.yasna.specs.base.Error.{kind_of};
+ghost use Rattle.yasna.specs.base.Grammar.{max_depth};
 ghost use Rattle.yasna_tool_run.specs.Engine.{IfRejected, IfIoError};
 ghost use Rattle.yasna_tool_run.specs.Failures.{AreAsBefore};
 
@@ -90,7 +91,7 @@ pub fn run<T: DERCanonical, R: Source, W: Sink>(
     requires writes { W.failed writer.old < 2 ^ 64 - 1 }
 
     // The bytes of `reader` encode some value, whose encoding was written.
-    ensures ok { OnOk result (IfSome (R.remaining reader.old) (λ s. (v : T) × T.encodes mode 101 v s
+    ensures ok { OnOk result (IfSome (R.remaining reader.old) (λ s. (v : T) × T.encodes mode max_depth v s
         × Appends (W.contents writer.old) (W.contents writer.new) (T.encoding BERMode.Der v))) }
     ensures to_the_end { OnOk result (IsAtEnd (R.remaining reader.new)) }
     ensures flushed { OnOk result (W.flushed writer.new ≡ true) }
@@ -100,7 +101,7 @@ pub fn run<T: DERCanonical, R: Source, W: Sink>(
 
     // Unless memory runs out, only bytes that encode no value are rejected.
     ensures rejected { IfRejected result (λ e. kind_of e ≢ ASN1ErrorKind.OutOfMemory → IsAtEnd (R.remaining reader.new)
-        × IfSome (R.remaining reader.old) (λ s. T.elements mode 101 s → ⊥)) }
+        × IfSome (R.remaining reader.old) (λ s. T.elements mode max_depth s → ⊥)) }
     ensures io_error { IfIoError result ((R.failed reader.old < R.failed reader.new)
         ⊎ (W.failed writer.old < W.failed writer.new)) }
     ensures failed_read { R.failed reader.old < R.failed reader.new → Keeps (W.contents writer.old) (W.contents writer.new) }

@@ -12,7 +12,7 @@
 //! Some prefixes answer otherwise: those of a SET of indefinite length that end after its header or after an element. Its
 //! callback runs before its end is missed; where it rejects these elements, that is the result.
 
-use crate::line::{Case, Line};
+use crate::line::{Case, VectorLine};
 use crate::outcome::outcome_or_unknown;
 use crate::run::{Report, Verdict};
 use std::alloc::{AllocError, Global};
@@ -86,7 +86,7 @@ fn check_case(
 
 // The case of a line that reads a byte or more and accepts them.
 fn accepted(line: &str) -> Option<Case<'_>> {
-    let line = Line::parse(line)?;
+    let line = VectorLine::parse(line)?;
     let takes_bytes = line.case.takes_bytes() && line.case.arg != "-" && line.case.arg.len() <= 600;
     if takes_bytes && line.expected.starts_with("ok ") {
         Some(line.case)

@@ -32,7 +32,7 @@ pub struct Case<'a> {
 
 /// A call, and the result that is to come.
 #[derive(Drop)]
-pub struct Line<'a> {
+pub struct VectorLine<'a> {
     pub case: Case<'a>,
     pub expected: &'a str,
 }
@@ -121,13 +121,13 @@ fn append_times(bytes: &mut Vec<u8>, piece: &[u8], times: u64) -> Result<(), All
     Ok(())
 }
 
-impl<'a> Line<'a> {
+impl<'a> VectorLine<'a> {
     /// The line `MODE CALL ARG => ANSWER`.
-    pub fn parse(text: &'a str) -> Option<Line<'a>> {
+    pub fn parse(text: &'a str) -> Option<VectorLine<'a>> {
         let (call, expected) = text.split_once(" => ")?;
         let marked = expected.ends_with("consumed");
         let case = Case::parse(call, marked)?;
-        Some(Line { case, expected })
+        Some(VectorLine { case, expected })
     }
 }
 

@@ -4,7 +4,7 @@
 //! the harness found none for an argument or a text, or what it says where it does without; each other line returns what it
 //! says.
 
-use crate::line::{Case, Line, is_outcome};
+use crate::line::{Case, VectorLine, is_outcome};
 use crate::outcome::outcome;
 use crate::run::{Report, Verdict};
 use std::alloc::{AllocError, Global};
@@ -34,7 +34,7 @@ pub fn run_lines(alloc: Global, lines: &str) -> Result<Report, AllocError> {
         place: 0,
     };
     for line in lines.lines() {
-        if let Some(line) = Line::parse(line) {
+        if let Some(line) = VectorLine::parse(line) {
             run_line(alloc, &line, &mut tally)?;
         }
     }
@@ -42,7 +42,7 @@ pub fn run_lines(alloc: Global, lines: &str) -> Result<Report, AllocError> {
 }
 
 // Runs a line, and notes what it returned. Whether an error consumed something isn't asked, as that takes further calls.
-fn run_line(alloc: Global, line: &Line, tally: &mut Tally) -> Result<(), AllocError> {
+fn run_line(alloc: Global, line: &VectorLine, tally: &mut Tally) -> Result<(), AllocError> {
     tally.lines = tally.lines.saturating_add(1);
     let case = Case {
         mode: line.case.mode,

@@ -1,6 +1,6 @@
 //! All lines of a text, one after the other.
 
-use crate::line::{Case, Line, is_outcome};
+use crate::line::{Case, VectorLine, is_outcome};
 use crate::outcome::{outcome, outcome_or_unknown};
 use std::alloc::{AllocError, Global};
 
@@ -82,7 +82,7 @@ pub fn check_lines(alloc: Global, input: &str) -> Result<Report, AllocError> {
 
 // Checks a line, and appends it where it isn't right.
 fn check_line(alloc: Global, line: &str, text: &mut String) -> Result<Verdict, AllocError> {
-    let Some(parsed) = Line::parse(line) else {
+    let Some(parsed) = VectorLine::parse(line) else {
         return no_line("no line", line, text);
     };
     match outcome(alloc, &parsed.case) {

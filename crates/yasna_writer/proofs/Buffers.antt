@@ -20,7 +20,8 @@ use Rattle.yasna_writer.specs.declared.buffer.SlotState.TheVariants.{Waits, Defi
 use Rattle.yasna_writer.specs.declared.buffer.OpenElement.{OpenElement}
 use Rattle.yasna_writer.specs.declared.buffer.Slot.{Slot}
 use Rattle.yasna_writer.specs.Header.{header_bytes, indefinite_header, parts_header}
-use Rattle.yasna_writer.specs.Buffer.{listed_header, header_of_state, FindsHeader, FindHeaders, StatesHeader, with_header, state_waits, waits_of, joined, AreInOrder, headers_length, KnowsPlace, KnowPlaces, AreSlots, IsInnermost, with_element}
+use Rattle.yasna_writer.specs.Buffer.{listed_header, header_of_state, FindsHeader, FindHeaders, StatesHeader, with_header, state_waits, waits_of}
+use Rattle.yasna_writer.specs.Buffer.{joined, AreInOrder, headers_length, KnowsPlace, KnowPlaces, AreSlots, IsInnermost, with_element}
 
 -- places stay in order where the contents grow
 pub order_more : (k : ℕ) (es : List Slot) (m n : ℕ) → AreInOrder k es m → m ≤ n → AreInOrder k es n

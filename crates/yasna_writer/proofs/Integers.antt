@@ -1,5 +1,6 @@
 -- The fewest bytes of a number in two's complement, from any bytes of it and its sign, or from more bytes than it takes.
-use Rattle.std.proofs.Common.{◌≡◌, ℕ, zero, suc, ◌+◌, ◌-◌, ◌*◌, ◌/◌, ◌^◌, ◌<◌, ◌≤◌, List, [], ◌∷◌, ◌++◌, length, length-drop, drop, cond, ℤ, pos, negsuc, inl, inr, refl, sym, ap, ◌∙◌, subst, arith, lt-ltb, le-ltb, mul-le-mul_right}
+use Rattle.std.proofs.Common.{◌≡◌, ℕ, zero, suc, ◌+◌, ◌-◌, ◌*◌, ◌/◌, ◌^◌, ◌<◌, ◌≤◌, List, [], ◌∷◌, ◌++◌, length, length-drop, drop, cond, ℤ, pos}
+use Rattle.std.proofs.Common.{negsuc, inl, inr, refl, sym, ap, ◌∙◌, subst, arith, lt-ltb, le-ltb, mul-le-mul_right}
 use Rattle.std.specs.Prelude.{Bool, true, false}
 use Rattle.std.proofs.Math.Nat.{pow-suc, pow-le-pow_right}
 use lib.Count.{count_leading_zeros}

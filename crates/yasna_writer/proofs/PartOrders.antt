@@ -11,7 +11,7 @@ use Rattle.yasna_base.specs.Order.{octets_cmp, in_order}
 use Rattle.yasna_base.specs.SetWriting.{in_encoding_order}
 use Rattle.yasna_base.proofs.Order.{in_order_map}
 use Rattle.yasna_writer.specs.Prepend.{Prepended, with_prefix, PrependsAll, Prepends}
-use Rattle.yasna_writer.specs.PartOrder.{BeginsWithParts, AreLengths, AreInOrder, OrdersParts, part_lens}
+use Rattle.yasna_writer.specs.PartOrder.{BeginsWithParts, AreLengths, ArePartsInOrder, OrdersParts, part_lens}
 use Rattle.yasna_writer.proofs.KnownLengths.{in_order_length}
 use Rattle.yasna_writer.proofs.Sets.{flat_concat}
 
@@ -97,7 +97,7 @@ ordered_length parts =
 -- parts in order are prepended to the rest, once the parts as they were are removed
 pub ordered_prepended :
     (lens ordered : List ℕ) (old mid new : Prepended) (r : Result (Unit {0}) ASN1Error)
-    → AreInOrder lens old.bytes ordered
+    → ArePartsInOrder lens old.bytes ordered
     → mid ≡ record old { bytes = drop (length ordered) old.bytes } → PrependsAll ordered mid new r → OrdersParts lens old new r
 ordered_prepended lens ordered old mid new r is e h =
     MatchResult-weaker r h
@@ -110,7 +110,7 @@ ordered_prepended lens ordered old mid new r is e h =
 -- bytes that were ordered are there
 pub ordered_within :
     (lens bytes ordered : List ℕ) → AreLengths lens bytes
-    → AreInOrder lens bytes ordered → length ordered ≤ length bytes
+    → ArePartsInOrder lens bytes ordered → length ordered ≤ length bytes
 ordered_within lens bytes ordered some is =
     omega (
       arith,

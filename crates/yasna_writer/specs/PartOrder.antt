@@ -22,8 +22,8 @@ abbrev pub AreLengths : List ℕ → List ℕ → Type 0
 AreLengths lens bytes = (parts : List (List ℕ)) × (rest : List ℕ) × BeginsWithParts lens bytes parts rest
 
 -- these are the parts of these lengths in the order of a SET OF, one after the other
-abbrev pub AreInOrder : List ℕ → List ℕ → List ℕ → Type 0
-AreInOrder lens bytes ordered = (parts : List (List ℕ)) (rest : List ℕ) → BeginsWithParts lens bytes parts rest → ordered ≡ concat (in_order octets_cmp parts)
+abbrev pub ArePartsInOrder : List ℕ → List ℕ → List ℕ → Type 0
+ArePartsInOrder lens bytes ordered = (parts : List (List ℕ)) (rest : List ℕ) → BeginsWithParts lens bytes parts rest → ordered ≡ concat (in_order octets_cmp parts)
 
 -- Ok put the parts of these lengths in the order of a SET OF, before the rest; Err is `OutOfMemory`
 abbrev pub OrdersParts : List ℕ → Prepended → Prepended → Result (Unit {0}) ASN1Error → Type 0

@@ -5,7 +5,7 @@ use Rattle.yasna_base.specs.declared.mode.BERMode.TheVariants.{Der, Cer}
 use Rattle.yasna_base.specs.declared.tag.PCBit.TheVariants.{Primitive}
 use Rattle.yasna_base.specs.Bits.{BitString, bits_tag, bits_contents, bit_segments}
 use Rattle.yasna_base.specs.Canonical.{canonical_element}
-use Rattle.yasna_base.specs.Octets.{octets_tag}
+use Rattle.yasna_base.specs.Octets.{octets_full, octets_tag}
 use Rattle.yasna_base.specs.Segments.{segments}
 
 -- whether a mode cuts n bytes, where k of them fill a segment
@@ -19,7 +19,7 @@ octet_segment b = canonical_element Der octets_tag Primitive b
 
 -- all segments of octets, one after the other
 abbrev pub in_octet_segments : List ℕ → List ℕ
-in_octet_segments b = flat_map octet_segment (segments 1000 b)
+in_octet_segments b = flat_map octet_segment (segments octets_full b)
 
 -- one segment of bits
 abbrev pub bit_segment : BitString → List ℕ

@@ -5,7 +5,7 @@ ghost use Rattle.yasna_base.specs.declared.error.ASN1ErrorKind.TheVariants.{OutO
 ghost use Rattle.yasna_base.specs.Error.{kind_of};
 ghost use Rattle.yasna_base.specs.Order.{octets_cmp, in_order};
 ghost use Rattle.yasna_writer.specs.Parts.{ordered_bytes};
-ghost use Rattle.yasna_writer.specs.PartOrder.{BeginsWithParts, AreLengths, AreInOrder, OrdersParts};
+ghost use Rattle.yasna_writer.specs.PartOrder.{BeginsWithParts, AreLengths, ArePartsInOrder, OrdersParts};
 
 use crate::ordered_part::OrderedPart;
 use crate::prepend_buffer::PrependBuffer;
@@ -55,7 +55,7 @@ fn join_parts(alloc: Global, parts: &[OrderedPart<'_>], room: usize) -> Result<V
 // The parts of these lengths in the order of a SET OF, one after the other, in a vector of their own.
 fn ordered_parts(alloc: Global, bytes: &[u8], lens: &[usize]) -> Result<Vec<u8>, AllocError>
     requires { AreLengths lens.now bytes.now }
-    ensures { IfOk result (λ v. AreInOrder lens.now bytes.now v.items) }
+    ensures { IfOk result (λ v. ArePartsInOrder lens.now bytes.now v.items) }
 {
     let mut parts = cut_parts(alloc, bytes, lens)?;
     order_by_bytes(&mut parts)?;

@@ -4,10 +4,10 @@
 //! octets, or BIT STRINGs of 999 bytes after their count of unused bits; the last part has what is left.
 ghost use Rattle.std.specs.Prelude.{◌≡◌, ◌≤◌, ◌<◌, ◌+◌, ◌*◌, length, [], ◌∷◌, ◌++◌};
 ghost use Rattle.yasna_base.specs.declared.tag.PCBit.TheVariants.{Primitive};
-ghost use Rattle.yasna_base.specs.Bits.{bits_tag};
+ghost use Rattle.yasna_base.specs.Bits.{bits_full, bits_tag};
 ghost use Rattle.yasna_base.specs.Canonical.{canonical_element, indefinite_element};
 ghost use Rattle.yasna_base.specs.Identifier.{tag_or};
-ghost use Rattle.yasna_base.specs.Octets.{octets_encoding};
+ghost use Rattle.yasna_base.specs.Octets.{octets_encoding, octets_full};
 ghost use Rattle.yasna_writer.specs.Header.{indefinite_header};
 ghost use Rattle.yasna_writer.specs.Segments.{is_cut, octet_segment, in_octet_segments, bit_segment, in_bit_segments, bits_with};
 ghost use Rattle.yasna_writer.specs.State.{Appended};
@@ -136,7 +136,7 @@ impl Writer {
 
     // Appends a segment of octets that is full: the tag of OCTET STRING, 1000 in two bytes, and the octets.
     fn append_full_octets(&mut self, octets: &[u8]) -> ASN1Result<()>
-        requires { length octets.now ≡ 1000 }
+        requires { length octets.now ≡ octets_full }
         ensures { Appended (octet_segment octets.now) self.old self.new result }
     {
         self.append(&[4, 130, 3, 232])?;
@@ -168,7 +168,7 @@ impl Writer {
 
     // Appends a segment of bits that is full: the tag of BIT STRING, 1000 in two bytes, 0 unused bits, and the bits.
     fn append_full_bits(&mut self, bytes: &[u8]) -> ASN1Result<()>
-        requires { length bytes.now ≡ 999 }
+        requires { length bytes.now ≡ bits_full }
         ensures { Appended (bit_segment (bits_with 0 bytes.now)) self.old self.new result }
     {
         self.append(&[3, 130, 3, 232, 0])?;

@@ -12,7 +12,7 @@ use yasna_tool_run::engine::{RunFault, run};
 use yasna_tool_run::tool::tool;
 
 /// The encoding of the pair of 10 and TRUE.
-const PAIR: [u8; 8] = [48, 6, 2, 1, 10, 1, 1, 255];
+const PAIR: [u8; 8] = [0x30, 0x06, 0x02, 0x01, 0x0a, 0x01, 0x01, 0xff];
 
 const INPUT: &str = "io\n";
 
@@ -157,7 +157,7 @@ static ROOMS: [(&str, &[u8], usize, bool, Ending, u64); 5] = [
     ("a pair has room", &PAIR, 8, false, Ending::Written, 0),
     (
         "a rejection comes before a write",
-        &[48, 6, 2, 1, 10, 1, 1],
+        &[0x30, 0x06, 0x02, 0x01, 0x0a, 0x01, 0x01],
         0,
         true,
         Ending::Cut,
@@ -203,7 +203,7 @@ fn is_full(alloc: Global, mut room: [u8; 3]) -> ASN1Result<bool> {
     let mut errors = Vec::new(alloc);
     let status = tool(alloc, &words, &mut reader, &mut writer, &mut errors);
     let is_said = status == 3 && errors.as_slice() == OUTPUT.as_bytes() && writer.failures() == 1;
-    Ok(is_said && room == [48, 6, 2])
+    Ok(is_said && room == [0x30, 0x06, 0x02])
 }
 
 /// Takes all bytes, and counts its flushes.

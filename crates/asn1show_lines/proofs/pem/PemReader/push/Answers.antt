@@ -1,7 +1,7 @@
 use Rattle.std.proofs.Common.{◌≡◌, ◌∙◌, ◌++◌, ◌∷◌, [], Some, refl, sym, subst, ap, rules}
 use Rattle.std.specs.Prelude.{option_map}
 use Rattle.asn1show_lines.specs.Reader.{open_lines, cuts, ends, within, IsCutOff, IsDecoded}
-use Rattle.asn1show_lines.specs.declared.block.Line.{Line}
+use Rattle.asn1show_lines.specs.declared.block.TextLine.{TextLine}
 use Rattle.asn1show_lines.proofs.Opening.{by_none, by_some, map_some}
 use Rattle.asn1show_lines.proofs.pem.PemReader.push.Goals as goal
 
@@ -28,7 +28,7 @@ returns-then-is_some c =
 pub returns : goal.returns
 returns c =
     let lines = c.in-Some.block.lines.items in
-    let last : Line = record { offset = c.pass-offset.result; text = c.args.line } in
+    let last : TextLine = record { offset = c.pass-offset.result; text = c.args.line } in
     let taken : open_lines c.args.self.now ≡ Some lines =
     sym c.pass-offset.ensures.lines ∙ ap (option_map (λ b. b.lines.items)) (sym c.take.ensures.value ∙ c.in-Some.is) in
     let pushed : c.push.new.self.items ≡ lines ++ (last ∷ []) = search rules in

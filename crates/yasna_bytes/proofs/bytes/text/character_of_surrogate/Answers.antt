@@ -2,7 +2,10 @@ use Rattle.std.proofs.Common.{arith, ◌+◌, ◌-◌, ◌*◌, ap, ap₂, sym, 
 use Rattle.std.specs.Char.Utf16.{utf16_lossy_chars}
 use Rattle.yasna_base.specs.Text.{units}
 use Rattle.yasna_bytes.proofs.Text.{spelled_unpaired, spelled_pair, units_first, units_none, value_or}
-use Rattle.yasna_bytes.proofs.bytes.text.character_of_surrogate.Goals.{in_default, in-len2-up+else-unit-lt56320, else-unit-lt56320-via-then-unit-lt56320+then-partner-ge56320+else-partner-lt57344, else-unit-lt56320-via-then-unit-lt56320+else-partner-ge56320, else-unit-lt56320-via-else-unit-lt56320}
+use Rattle.yasna_bytes.proofs.bytes.text.character_of_surrogate.Goals.{in_default, in-len2-up+else-unit-lt56320}
+use Rattle.yasna_bytes.proofs.bytes.text.character_of_surrogate.Goals.{else-unit-lt56320-via-then-unit-lt56320+then-partner-ge56320+else-partner-lt57344}
+use Rattle.yasna_bytes.proofs.bytes.text.character_of_surrogate.Goals.{else-unit-lt56320-via-then-unit-lt56320+else-partner-ge56320}
+use Rattle.yasna_bytes.proofs.bytes.text.character_of_surrogate.Goals.{else-unit-lt56320-via-else-unit-lt56320}
 use Rattle.yasna_bytes.proofs.bytes.text.character_of_surrogate.Goals as goal
 
 pub returns-then-partner-lt57344-clause-spelled : goal.returns-then-partner-lt57344-clause-spelled

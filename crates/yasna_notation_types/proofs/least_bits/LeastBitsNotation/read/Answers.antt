@@ -4,7 +4,8 @@ use Rattle.yasna_base.specs.Coding.{Any}
 use Rattle.yasna_base.specs.Identifier.{tag_or}
 use Rattle.yasna_bytes.specs.Segments.{bits_in}
 use Rattle.yasna_notation_types.specs.LeastBits.{EncodesLeast}
-use Rattle.yasna_notation_types.specs.NamedBits.{WithinMode, EncodesBits, ends_well}
+use Rattle.yasna_notation.specs.WithinMode.{WithinMode}
+use Rattle.yasna_notation_types.specs.NamedBits.{EncodesBits, ends_well}
 use Rattle.yasna_notation_types.proofs.Readings.{reads_map}
 use Rattle.yasna_notation_types.proofs.least_bits.LeastBitsNotation.read.Goals as goal
 

@@ -3,7 +3,8 @@ use Rattle.yasna_base.specs.Bits.{bits_tag}
 use Rattle.yasna_base.specs.Coding.{Any}
 use Rattle.yasna_bytes.specs.Segments.{bits_in}
 use Rattle.yasna_notation.specs.Notation.{ReadsAs}
-use Rattle.yasna_notation_types.specs.NamedBits.{WithinMode, EncodesBits, ends_well}
+use Rattle.yasna_notation.specs.WithinMode.{WithinMode}
+use Rattle.yasna_notation_types.specs.NamedBits.{EncodesBits, ends_well}
 use Rattle.yasna_notation_types.proofs.BitEnds.{Held, well_read, ill_read, not_read}
 use Rattle.yasna_notation_types.proofs.named_bits.NamedBitsNotation.read.Goals as goal
 

@@ -3,7 +3,9 @@ use Rattle.yasna_times.specs.Zone.{seconds_of}
 use Rattle.yasna_times.specs.GeneralizedTime.{IsClockEnd}
 use Rattle.yasna_times.proofs.OneLayout.{EndsPart, no_empty_part, no_zone_there, part_found}
 use Rattle.yasna_times.proofs.models.generalized_time.layout.Layout.of.Goals as goal
-use Rattle.yasna_times.proofs.models.generalized_time.layout.Layout.of.Goals.{else-clock_end-ne10-via-then-clock_end-ne10+then-clock_end-ne12+else-clock_end-ne14, else-clock_end-ne10-via-then-clock_end-ne10+else-clock_end-ne12, else-clock_end-ne10-via-else-clock_end-ne10}
+use Rattle.yasna_times.proofs.models.generalized_time.layout.Layout.of.Goals.{else-clock_end-ne10-via-then-clock_end-ne10+then-clock_end-ne12+else-clock_end-ne14}
+use Rattle.yasna_times.proofs.models.generalized_time.layout.Layout.of.Goals.{else-clock_end-ne10-via-then-clock_end-ne10+else-clock_end-ne12}
+use Rattle.yasna_times.proofs.models.generalized_time.layout.Layout.of.Goals.{else-clock_end-ne10-via-else-clock_end-ne10}
 
 pub returns-then-zone_at-clock_end-clause-exact : goal.returns-then-zone_at-clock_end-clause-exact
 returns-then-zone_at-clock_end-clause-exact c =
