@@ -23,13 +23,13 @@ ghost use Rattle.ldap.specs.contracts.sasl_credentials.SaslCredentialsNotation.T
 
 use crate::authentication::AuthenticationChoice;
 use crate::sasl_credentials::SaslCredentials;
-use crate::tagged::{prepend_tagged_fields, tagged_fields_len, write_tagged_fields};
 use yasna::models::TaggedDerValue;
 use yasna::{ASN1Result, BERMode, BERReader, DERWriter, PrependBuffer, Tag};
 use yasna_notation::{
     Application, Bounded, Choice, Context, DefinedType, FromTo, Implicit, Message, Notation,
     Represents, Sequence, read_as,
 };
+use yasna_notation_tags::{implicit_fields_len, prepend_implicit_fields, write_implicit_fields};
 use yasna_notation_types::Rest;
 
 type Parts = (
@@ -82,7 +82,7 @@ impl Notation for BindRequest {
     }
 
     fn write(value: &BindRequest, writer: DERWriter<'_>) -> ASN1Result<()> {
-        write_tagged_fields::<Application<0>, Parts, _>(
+        write_implicit_fields::<Application<0>, Parts, _>(
             (
                 &value.version,
                 (&value.name, (&value.authentication, &value.unknown)),
@@ -92,7 +92,7 @@ impl Notation for BindRequest {
     }
 
     fn prepend(value: &BindRequest, under: Option<Tag>, out: &mut PrependBuffer) -> ASN1Result<()> {
-        prepend_tagged_fields::<Application<0>, Parts, _>(
+        prepend_implicit_fields::<Application<0>, Parts, _>(
             (
                 &value.version,
                 (&value.name, (&value.authentication, &value.unknown)),
@@ -103,7 +103,7 @@ impl Notation for BindRequest {
     }
 
     fn encoded_len(value: &BindRequest, under: Option<Tag>, mode: BERMode) -> Option<usize> {
-        tagged_fields_len::<Application<0>, Parts, _>(
+        implicit_fields_len::<Application<0>, Parts, _>(
             (
                 &value.version,
                 (&value.name, (&value.authentication, &value.unknown)),

@@ -21,13 +21,13 @@ ghost use Rattle.ldap.specs.ResultCodes.{code_number, code_writable};
 
 use crate::ldap_result::LdapResult;
 use crate::result_code::ResultCode;
-use crate::tagged::{prepend_tagged_fields, tagged_fields_len, write_tagged_fields};
 use yasna::models::TaggedDerValue;
 use yasna::{ASN1Result, BERMode, BERReader, DERWriter, PrependBuffer, Tag};
 use yasna_notation::{
     Application, Bounded, Choice, Context, Implicit, Message, NotEmpty, Notation, Represents,
     Sequence, SequenceOf, read_as,
 };
+use yasna_notation_tags::{implicit_fields_len, prepend_implicit_fields, write_implicit_fields};
 use yasna_notation_types::{Named, Others, Possible};
 
 type Referral = Implicit<Context<3>, Bounded<SequenceOf<Vec<u8>>, NotEmpty>>;
@@ -100,7 +100,7 @@ impl Notation for BindResponse {
             (&value.server_sasl_creds, &outcome.unknown),
         );
         let strings = (&outcome.matched_dn, (&outcome.diagnostic_message, ends));
-        write_tagged_fields::<Application<1>, Parts, _>((&outcome.result_code, strings), writer)
+        write_implicit_fields::<Application<1>, Parts, _>((&outcome.result_code, strings), writer)
     }
 
     fn prepend(
@@ -114,7 +114,7 @@ impl Notation for BindResponse {
             (&value.server_sasl_creds, &outcome.unknown),
         );
         let strings = (&outcome.matched_dn, (&outcome.diagnostic_message, ends));
-        prepend_tagged_fields::<Application<1>, Parts, _>(
+        prepend_implicit_fields::<Application<1>, Parts, _>(
             (&outcome.result_code, strings),
             under,
             out,
@@ -128,7 +128,11 @@ impl Notation for BindResponse {
             (&value.server_sasl_creds, &outcome.unknown),
         );
         let strings = (&outcome.matched_dn, (&outcome.diagnostic_message, ends));
-        tagged_fields_len::<Application<1>, Parts, _>((&outcome.result_code, strings), under, mode)
+        implicit_fields_len::<Application<1>, Parts, _>(
+            (&outcome.result_code, strings),
+            under,
+            mode,
+        )
     }
 
     ghost lawful = { λ _. represented_lawful ⟦<BindResponse as Represents<Fields>>⟧.value_of

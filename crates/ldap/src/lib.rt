@@ -27,7 +27,6 @@
 //! | `substring`, `substring_filter`, `matching_rule_assertion`, `attribute_value_assertion` | the assertions of filters |
 //! | `search_result_entry`, `search_result_done`, `search_result_reference` | what a search returns |
 //! | `partial_attribute`, `attribute` | attributes |
-//! | `tagged` | how fields are written under a tag |
 #![tactic(auto)]
 
 mod attribute;
@@ -58,7 +57,6 @@ mod search_result_entry;
 mod search_result_reference;
 mod substring;
 mod substring_filter;
-mod tagged;
 mod unbind_request;
 
 pub use attribute::Attribute;

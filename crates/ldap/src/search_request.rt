@@ -37,13 +37,13 @@ ghost use Rattle.ldap.specs.contracts.filter_notation.FilterNotation.TheImpl.Law
 use crate::deref_aliases::DerefAliases;
 use crate::filter::Filter;
 use crate::scope::Scope;
-use crate::tagged::{prepend_tagged_fields, tagged_fields_len, write_tagged_fields};
 use yasna::models::TaggedDerValue;
 use yasna::{ASN1Result, BERMode, BERReader, DERWriter, PrependBuffer, Tag};
 use yasna_notation::{
     Application, AtMost, Bounded, Implicit, Message, Notation, Represents, Sequence, SequenceOf,
     read_as,
 };
+use yasna_notation_tags::{implicit_fields_len, prepend_implicit_fields, write_implicit_fields};
 use yasna_notation_types::{Named, Rest};
 
 type MaxInt = Bounded<u64, AtMost<2147483647>>;
@@ -117,7 +117,7 @@ impl Notation for SearchRequest {
     }
 
     fn write(value: &SearchRequest, writer: DERWriter<'_>) -> ASN1Result<()> {
-        write_tagged_fields::<Application<3>, Parts, _>(
+        write_implicit_fields::<Application<3>, Parts, _>(
             (
                 &value.base_object,
                 (
@@ -146,7 +146,7 @@ impl Notation for SearchRequest {
         under: Option<Tag>,
         out: &mut PrependBuffer,
     ) -> ASN1Result<()> {
-        prepend_tagged_fields::<Application<3>, Parts, _>(
+        prepend_implicit_fields::<Application<3>, Parts, _>(
             (
                 &request.base_object,
                 (
@@ -172,7 +172,7 @@ impl Notation for SearchRequest {
     }
 
     fn encoded_len(request: &SearchRequest, under: Option<Tag>, mode: BERMode) -> Option<usize> {
-        tagged_fields_len::<Application<3>, Parts, _>(
+        implicit_fields_len::<Application<3>, Parts, _>(
             (
                 &request.base_object,
                 (

@@ -21,12 +21,12 @@ ghost use Rattle.yasna_notation.specs.contracts.strings.VecU8Notation.TheImpl.La
 ghost use Rattle.ldap.specs.contracts.partial_attribute.PartialAttributeNotation.TheImpl.Laws.{lawful-law as attribute};
 
 use crate::partial_attribute::PartialAttribute;
-use crate::tagged::{prepend_tagged_fields, tagged_fields_len, write_tagged_fields};
 use yasna::models::TaggedDerValue;
 use yasna::{ASN1Result, BERMode, BERReader, DERWriter, PrependBuffer, Tag};
 use yasna_notation::{
     Application, Implicit, Message, Notation, Represents, Sequence, SequenceOf, read_as,
 };
+use yasna_notation_tags::{implicit_fields_len, prepend_implicit_fields, write_implicit_fields};
 use yasna_notation_types::Rest;
 
 type Parts = (
@@ -76,7 +76,7 @@ impl Notation for SearchResultEntry {
     }
 
     fn write(value: &SearchResultEntry, writer: DERWriter<'_>) -> ASN1Result<()> {
-        write_tagged_fields::<Application<4>, Parts, _>(
+        write_implicit_fields::<Application<4>, Parts, _>(
             (&value.object_name, (&value.attributes, &value.unknown)),
             writer,
         )
@@ -87,7 +87,7 @@ impl Notation for SearchResultEntry {
         under: Option<Tag>,
         out: &mut PrependBuffer,
     ) -> ASN1Result<()> {
-        prepend_tagged_fields::<Application<4>, Parts, _>(
+        prepend_implicit_fields::<Application<4>, Parts, _>(
             (&value.object_name, (&value.attributes, &value.unknown)),
             under,
             out,
@@ -95,7 +95,7 @@ impl Notation for SearchResultEntry {
     }
 
     fn encoded_len(value: &SearchResultEntry, under: Option<Tag>, mode: BERMode) -> Option<usize> {
-        tagged_fields_len::<Application<4>, Parts, _>(
+        implicit_fields_len::<Application<4>, Parts, _>(
             (&value.object_name, (&value.attributes, &value.unknown)),
             under,
             mode,
