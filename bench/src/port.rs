@@ -32,6 +32,7 @@ mod linked {
         pub fn yasna_read_set_of(bytes: *const u8, length: usize, der: bool) -> u64;
         pub fn yasna_write_set_of(numbers: *const i64, length: usize) -> u64;
         pub fn yasna_write_pair_values(bytes: *const u8, length: usize, times: u64) -> u64;
+        pub fn yasna_write_set_values(bytes: *const u8, length: usize, times: u64) -> u64;
         pub fn yasna_ten_explicit(bytes: *const u8, length: usize) -> u64;
         pub fn yasna_ten_implicit(bytes: *const u8, length: usize) -> u64;
         pub fn yasna_ten_explicit_looped(bytes: *const u8, length: usize) -> u64;
@@ -160,6 +161,9 @@ pub fn write_set_of(numbers: &[i64]) -> u64 {
 
 pub fn write_pair_values(bytes: &[u8], times: u64) -> u64 {
     unsafe { linked::yasna_write_pair_values(bytes.as_ptr(), bytes.len(), times) }
+
+pub fn write_set_values(bytes: &[u8], times: u64) -> u64 {
+    unsafe { linked::yasna_write_set_values(bytes.as_ptr(), bytes.len(), times) }
 }
 
 pub fn read_raw(bytes: &[u8], count: usize, der: bool) -> u64 {

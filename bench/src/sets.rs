@@ -13,6 +13,7 @@ pub fn cases() -> Vec<Case> {
     let (few, some) = (&numbers[..1000], &numbers[..10_000]);
     vec![
         written("SET OF of 10k written", some, 5),
+        value_written("a value with a SET OF of 10k written", some, 20),
         written("a part of a SET OF of 1k written", few, 50).by_parts(few.len()),
         written("a part of a SET OF of 100k written", numbers, 1).by_parts(INTEGERS),
         read("SET OF of 10k read", set(some), 10),
@@ -57,6 +58,47 @@ fn written(name: &'static str, numbers: &'static [i64], calls: usize) -> Case {
         })
         .with(ByHand, move || {
             length(by_hand::write_set(black_box(numbers)))
+        })
+}
+
+// A SEQUENCE of a SET OF these numbers.
+fn upstream_value(numbers: &[i64]) -> Vec<u8> {
+    construct_der(|writer| {
+        writer.write_sequence(|seq| {
+            seq.next().write_set_of(|set| {
+                for number in numbers {
+                    set.next().write_i64(*number);
+                }
+            })
+        })
+    })
+}
+
+// A value is read once and written so many times, here as its type's notation.
+fn value_written(name: &'static str, numbers: &'static [i64], times: u64) -> Case {
+    let bytes = kept(upstream_value(numbers));
+    let sum =
+        move |write: &dyn Fn() -> Vec<u8>| (0..black_box(times)).map(|_| length(write())).sum();
+    Case::new(name, 1)
+        .by_parts(times as usize)
+        .with(Port, move || {
+            port::write_set_values(black_box(bytes), black_box(times))
+        })
+        .with(Upstream, move || {
+            sum(&|| upstream_value(black_box(numbers)))
+        })
+        .with(Asn1, move || {
+            sum(&|| {
+                let written = asn1::write(|writer| {
+                    writer.write_element(&asn1::SequenceWriter::new(&|parts| {
+                        parts.write_element(&asn1::SetOfWriter::new(black_box(numbers)))
+                    }))
+                });
+                written.expect("numbers can be written")
+            })
+        })
+        .with(ByHand, move || {
+            sum(&|| by_hand::enclosed(48, &by_hand::write_set(black_box(numbers))))
         })
 }
 

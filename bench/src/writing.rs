@@ -24,7 +24,7 @@ pub fn cases() -> Vec<Case> {
         pairs(),
         pairs_cer(),
         pair_values("20k pairs as a value written", PAIRS, 20),
-        pair_values("a million pairs as a value written", 1_000_000, 5),
+        pair_values("a million pairs as a value written", 1_000_000, 20),
         nested_pairs("20k pairs inside 100 sequences", 100),
         nest("1 MiB in 50 sequences", inputs::big_contents(), 50, 2),
         nest("a level at depth 1", kept(vec![10]), 1, 20_000),

@@ -9,6 +9,7 @@
 //! | `options` | calls that read optional parts |
 //! | `writing` | calls that write numbers, pairs and nested elements |
 //! | `sets` | calls that read and write SET OF |
+//! | `numbers` | a type with a SET OF |
 //! | `raw` | calls that read raw elements |
 //! | `strings`, `oid` | calls that read and write octet strings, texts and object identifiers |
 //! | `times` | calls that parse, print, read and write both times |
@@ -18,6 +19,7 @@
 ghost use Rattle.std.specs.Prelude.{◌≡◌, ◌-◌, ◌^◌, MatchResult};
 
 mod messages;
+mod numbers;
 mod oid;
 mod options;
 mod raw;

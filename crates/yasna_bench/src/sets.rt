@@ -1,9 +1,12 @@
 //! Calls that read and write SET OF.
 
+use crate::numbers::Numbers;
 use crate::reading::{list_checksum, mode};
+use crate::writing::written;
 use crate::{length, number_of};
 use std::alloc::Global;
 use yasna::{ASN1Result, DERWriterSet, construct_der, parse_ber_general};
+use yasna_notation::Encoded;
 
 /// The checksum of the numbers of a SET OF, which are collected first.
 #[unsafe(no_mangle)]
@@ -24,6 +27,12 @@ pub extern "C" fn yasna_write_set_of(alloc: Global, numbers: &[i64]) -> u64 {
         alloc,
         |writer| writer.write_set_of(|set| write_parts(set, numbers)),
     ))
+}
+
+/// The lengths of a SEQUENCE with a SET OF numbers that is read once and written so many times as a value, in sum.
+#[unsafe(no_mangle)]
+pub extern "C" fn yasna_write_set_values(alloc: Global, bytes: &[u8], times: u64) -> u64 {
+    number_of(written::<Encoded<Numbers>>(alloc, bytes, times))
 }
 
 // Writes each of these numbers.
