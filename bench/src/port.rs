@@ -161,6 +161,7 @@ pub fn write_set_of(numbers: &[i64]) -> u64 {
 
 pub fn write_pair_values(bytes: &[u8], times: u64) -> u64 {
     unsafe { linked::yasna_write_pair_values(bytes.as_ptr(), bytes.len(), times) }
+}
 
 pub fn write_set_values(bytes: &[u8], times: u64) -> u64 {
     unsafe { linked::yasna_write_set_values(bytes.as_ptr(), bytes.len(), times) }

@@ -74,9 +74,18 @@ fn upstream_value(numbers: &[i64]) -> Vec<u8> {
     })
 }
 
+// The same SEQUENCE in BER, whose SET OF isn't in order.
+fn unordered_value(numbers: &[i64]) -> Vec<u8> {
+    let mut contents = Vec::new();
+    for number in numbers {
+        by_hand::write_integer(&mut contents, *number);
+    }
+    by_hand::enclosed(48, &by_hand::enclosed(49, &contents))
+}
+
 // A value is read once and written so many times, here as its type's notation.
 fn value_written(name: &'static str, numbers: &'static [i64], times: u64) -> Case {
-    let bytes = kept(upstream_value(numbers));
+    let bytes = kept(unordered_value(numbers));
     let sum =
         move |write: &dyn Fn() -> Vec<u8>| (0..black_box(times)).map(|_| length(write())).sum();
     Case::new(name, 1)

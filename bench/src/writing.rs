@@ -16,6 +16,10 @@ type Pair = (i64, bool);
 #[derive(asn1::Asn1Write)]
 struct Parts(i64, bool);
 
+// Another one, whose number has no sign.
+#[derive(asn1::Asn1Write)]
+struct UnsignedParts(u64, bool);
+
 pub fn cases() -> Vec<Case> {
     vec![
         pair(),
@@ -23,7 +27,7 @@ pub fn cases() -> Vec<Case> {
         integers("write 100k mixed integers", inputs::mixed_integers()),
         pairs(),
         pairs_cer(),
-        pair_values("20k pairs as a value written", PAIRS, 20),
+        pair_values("20k pairs as a value written", PAIRS, 100),
         pair_values("a million pairs as a value written", 1_000_000, 20),
         nested_pairs("20k pairs inside 100 sequences", 100),
         nest("1 MiB in 50 sequences", inputs::big_contents(), 50, 2),
@@ -141,8 +145,8 @@ fn pairs() -> Case {
 // Pairs that are read once, and written so many times as a whole.
 fn pair_values(name: &'static str, count: u32, times: u64) -> Case {
     let bytes = inputs::pair_list(count);
-    let numbers = 0..i64::from(count);
-    let pairs: Vec<Pair> = numbers.map(|number| (number, number % 2 == 0)).collect();
+    let numbers = 0..u64::from(count);
+    let pairs: Vec<(u64, bool)> = numbers.map(|number| (number, number % 2 == 0)).collect();
     let pairs = kept(pairs);
     let sum =
         move |write: &dyn Fn() -> Vec<u8>| (0..black_box(times)).map(|_| length(write())).sum();
@@ -150,7 +154,7 @@ fn pair_values(name: &'static str, count: u32, times: u64) -> Case {
     let parts = kept(
         pairs
             .iter()
-            .map(|(number, flag)| Parts(*number, *flag))
+            .map(|(number, flag)| UnsignedParts(*number, *flag))
             .collect(),
     );
     Case::new(name, 1)
@@ -169,7 +173,7 @@ fn pair_values(name: &'static str, count: u32, times: u64) -> Case {
             sum(&|| {
                 let mut contents = Vec::new();
                 for (number, flag) in black_box(pairs) {
-                    by_hand::write_pair(&mut contents, *number, *flag);
+                    by_hand::write_pair(&mut contents, *number as i64, *flag);
                 }
                 by_hand::enclosed(48, &contents)
             })
