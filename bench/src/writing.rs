@@ -10,15 +10,9 @@ use bcder::encode::{self, PrimitiveContent, Values};
 use std::hint::black_box;
 use yasna::{construct_der, encode_der, DERWriterSeq};
 
-type Pair = (i64, bool);
-
 // A pair as a type of `asn1`.
 #[derive(asn1::Asn1Write)]
-struct Parts(i64, bool);
-
-// Another one, whose number has no sign.
-#[derive(asn1::Asn1Write)]
-struct UnsignedParts(u64, bool);
+struct Parts(u64, bool);
 
 pub fn cases() -> Vec<Case> {
     vec![
@@ -154,7 +148,7 @@ fn pair_values(name: &'static str, count: u32, times: u64) -> Case {
     let parts = kept(
         pairs
             .iter()
-            .map(|(number, flag)| UnsignedParts(*number, *flag))
+            .map(|(number, flag)| Parts(*number, *flag))
             .collect(),
     );
     Case::new(name, 1)
