@@ -12,7 +12,7 @@ use yasna::{construct_der, encode_der, DERWriterSeq};
 
 // A pair as a type of `asn1`.
 #[derive(asn1::Asn1Write)]
-struct Parts(u64, bool);
+struct Parts(bool, u64);
 
 pub fn cases() -> Vec<Case> {
     vec![
@@ -138,17 +138,17 @@ fn pairs() -> Case {
 
 // Pairs that are read once, and written so many times as a whole.
 fn pair_values(name: &'static str, count: u32, times: u64) -> Case {
-    let bytes = inputs::pair_list(count);
     let numbers = 0..u64::from(count);
-    let pairs: Vec<(u64, bool)> = numbers.map(|number| (number, number % 2 == 0)).collect();
+    let pairs: Vec<(bool, u64)> = numbers.map(|number| (number % 2 == 0, number)).collect();
     let pairs = kept(pairs);
     let sum =
         move |write: &dyn Fn() -> Vec<u8>| (0..black_box(times)).map(|_| length(write())).sum();
     let list = pairs.to_vec();
+    let bytes = kept(encode_der(&list));
     let parts = kept(
         pairs
             .iter()
-            .map(|(number, flag)| Parts(*number, *flag))
+            .map(|(flag, number)| Parts(*flag, *number))
             .collect(),
     );
     Case::new(name, 1)
@@ -166,8 +166,8 @@ fn pair_values(name: &'static str, count: u32, times: u64) -> Case {
         .with(ByHand, move || {
             sum(&|| {
                 let mut contents = Vec::new();
-                for (number, flag) in black_box(pairs) {
-                    by_hand::write_pair(&mut contents, *number as i64, *flag);
+                for (flag, number) in black_box(pairs) {
+                    by_hand::write_flag_and_number(&mut contents, *flag, *number as i64);
                 }
                 by_hand::enclosed(48, &contents)
             })
