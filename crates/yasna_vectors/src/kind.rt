@@ -102,26 +102,17 @@ impl ElementType {
 
     // Reads an element that takes several reads, or none.
     fn read_composed(self, reader: BERReader) -> ASN1Result<Leaf> {
-        Ok(match self {
-            ElementType::Null => return read_null(reader),
-            ElementType::Nest(depth) => Leaf::Nested(read_nest(depth, reader)?),
-            ElementType::Nests => Leaf::Nested(read_nests(reader)?),
-            ElementType::Around => {
-                let number = reader.read_sequence(read_next_integer)?;
-                Leaf::Nested(Nested::around(number))
-            }
-            ElementType::Within => Leaf::I64(reader.read_sequence(read_next_integer)?),
-            ElementType::Choice if reader.lookahead_tag()? == TAG_INTEGER => {
-                Leaf::I64(reader.read_i64()?)
-            }
-            ElementType::Choice => return read_null(reader),
-            ElementType::Again => Leaf::I64(match reader.read_i64() {
-                Ok(number) => number,
-                Err(_) => reader.read_i64()?,
-            }),
-            ElementType::Rejected(kind) => return Err(ASN1Error::new(kind)),
-            _ => Leaf::Null,
-        })
+        match self {
+            ElementType::Null => read_null(reader),
+            ElementType::Nest(depth) => nested(read_nest(depth, reader)),
+            ElementType::Nests => nested(read_nests(reader)),
+            ElementType::Around => around(reader.read_sequence(read_next_integer)),
+            ElementType::Within => integer(reader.read_sequence(read_next_integer)),
+            ElementType::Choice => read_choice(reader),
+            ElementType::Again => read_again(reader),
+            ElementType::Rejected(kind) => Err(ASN1Error::new(kind)),
+            _ => Ok(Leaf::Null),
+        }
     }
 
     /// The value that a text is.
@@ -197,6 +188,49 @@ impl ElementType {
             ElementType::U8 => Leaf::U8(text.parse()?),
             _ => Leaf::I64(text.parse()?),
         })
+    }
+}
+
+// The SEQUENCEs that were read.
+fn nested(read: ASN1Result<Nested>) -> ASN1Result<Leaf> {
+    match read {
+        Ok(nested) => Ok(Leaf::Nested(nested)),
+        Err(error) => Err(error),
+    }
+}
+
+// A SEQUENCE around the number that was read.
+fn around(read: ASN1Result<i64>) -> ASN1Result<Leaf> {
+    match read {
+        Ok(number) => Ok(Leaf::Nested(Nested::around(number))),
+        Err(error) => Err(error),
+    }
+}
+
+// The number that was read.
+fn integer(read: ASN1Result<i64>) -> ASN1Result<Leaf> {
+    match read {
+        Ok(number) => Ok(Leaf::I64(number)),
+        Err(error) => Err(error),
+    }
+}
+
+// Reads an INTEGER or NULL.
+fn read_choice(reader: BERReader) -> ASN1Result<Leaf> {
+    if reader.lookahead_tag()? == TAG_INTEGER {
+        integer(reader.read_i64())
+    } else {
+        read_null(reader)
+    }
+}
+
+// Reads an INTEGER, and once more where that is rejected.
+fn read_again(reader: BERReader) -> ASN1Result<Leaf> {
+    let first = reader.read_i64();
+    if first.is_ok() {
+        integer(first)
+    } else {
+        integer(reader.read_i64())
     }
 }
 

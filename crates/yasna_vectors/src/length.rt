@@ -18,22 +18,26 @@ use yasna::{ASN1Result, BERMode, construct_der};
 
 /// What the call of this name returns, on so many bytes.
 pub fn outcome(alloc: Global, name: &str, count: usize) -> Text {
-    let Ok(element) = sequence(alloc, name, count) else {
-        return Text::when_out_of_memory(alloc);
-    };
-    let written = match name {
+    match sequence(alloc, name, count) {
+        Ok(element) => match encoding(alloc, name, &element) {
+            Ok(encoding) if name == "seqbigint" => read_back(alloc, &encoding, &element),
+            Ok(encoding) => size_and_prefix(alloc, &encoding),
+            Err(error) => Text::rejected(alloc, error.kind()),
+        },
+        Err(_) => Text::when_out_of_memory(alloc),
+    }
+}
+
+// What the call writes of an element.
+fn encoding(alloc: Global, name: &str, element: &Element) -> ASN1Result<Vec<u8>> {
+    match name {
         "seqseqlen" => {
             construct_der(
                 alloc,
                 |writer| writer.write_sequence(|seq| element.write(seq.next())),
             )
         }
-        _ => encoding_of(alloc, BERMode::Der, &element),
-    };
-    match written {
-        Ok(encoding) if name == "seqbigint" => read_back(alloc, &encoding, &element),
-        Ok(encoding) => size_and_prefix(alloc, &encoding),
-        Err(error) => Text::rejected(alloc, error.kind()),
+        _ => encoding_of(alloc, BERMode::Der, element),
     }
 }
 
@@ -60,13 +64,19 @@ fn size_and_prefix(alloc: Global, encoding: &[u8]) -> Text {
 // How many bytes there are, and the first 16, if they end in the number and are read as it.
 fn read_back(alloc: Global, encoding: &[u8], written: &Element) -> Text {
     match parse(alloc, BERMode::Der, BIG_NUMBER, encoding) {
-        Ok(read) => match (number_of(&read), number_of(written)) {
-            (Some(read), Some(number)) if read == number && encoding.ends_with(number) => {
-                size_and_prefix(alloc, encoding)
-            }
-            _ => Text::new(alloc, "read back as another number"),
-        },
+        Ok(read) if is_end_of(encoding, number_of(&read), number_of(written)) => {
+            size_and_prefix(alloc, encoding)
+        }
+        Ok(_) => Text::new(alloc, "read back as another number"),
         Err(error) => Text::rejected(alloc, error.kind()),
+    }
+}
+
+// Whether both are one number, and end the encoding.
+fn is_end_of(encoding: &[u8], read: Option<&[u8]>, written: Option<&[u8]>) -> bool {
+    match (read, written) {
+        (Some(read), Some(number)) => read == number && encoding.ends_with(number),
+        _ => false,
     }
 }
 

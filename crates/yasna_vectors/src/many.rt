@@ -13,7 +13,7 @@ use crate::calls::{BYTES, NUMBERS};
 use crate::leaf::Leaf;
 use crate::outcome::Outcome;
 use crate::parts::{Element, Group, Part, append};
-use crate::reading::{encoding_of, parse};
+use crate::reading::{encoding_of, parse, read_and_length};
 use crate::text::Text;
 use std::alloc::{AllocError, Global};
 use yasna::{ASN1Result, BERMode, construct_der};
@@ -52,15 +52,28 @@ fn octets(
     segment: Option<usize>,
 ) -> ASN1Result<(usize, usize)> {
     let bytes = counting(alloc, count)?;
-    let encoded = match segment {
-        None => whole(alloc, &bytes)?,
-        Some(size) => cut(alloc, &bytes, size)?,
-    };
-    let element = parse(alloc, mode, BYTES, &encoded)?;
-    let written = encoding_of(alloc, mode, &element)?;
+    let encoded = encoded(alloc, &bytes, segment)?;
+    let (element, written) = read_and_length(alloc, mode, BYTES, &encoded)?;
+    if is_of(&element, &bytes) {
+        Ok((count, written))
+    } else {
+        Ok((0, 0))
+    }
+}
+
+// Whether the element is these octets.
+fn is_of(element: &Element, octets: &[u8]) -> bool {
     match element.leaf() {
-        Some(Leaf::Bytes(read)) if *read == bytes => Ok((read.len(), written.len())),
-        _ => Ok((0, 0)),
+        Some(Leaf::Bytes(read)) => read.as_slice() == octets,
+        _ => false,
+    }
+}
+
+// The bytes as one element, or in segments of this size.
+fn encoded(alloc: Global, bytes: &[u8], segment: Option<usize>) -> ASN1Result<Vec<u8>> {
+    match segment {
+        None => whole(alloc, bytes),
+        Some(size) => cut(alloc, bytes, size),
     }
 }
 
@@ -93,9 +106,15 @@ fn cut(alloc: Global, bytes: &[u8], size: usize) -> ASN1Result<Vec<u8>> {
 // How many numbers are collected of so many that are written, and in how many bytes.
 fn collected(alloc: Global, mode: BERMode, count: usize) -> ASN1Result<(usize, usize)> {
     let bytes = encoding_of(alloc, mode, &numbers(alloc, count)?)?;
-    match parse(alloc, mode, NUMBERS, &bytes)?.parts() {
-        Some(items) => Ok((items.len(), bytes.len())),
-        None => Ok((0, 0)),
+    let element = parse(alloc, mode, NUMBERS, &bytes)?;
+    Ok((count_of(&element), bytes.len()))
+}
+
+// How many parts an element holds.
+fn count_of(element: &Element) -> usize {
+    match element.parts() {
+        Some(parts) => parts.len(),
+        None => 0,
     }
 }
 

@@ -81,29 +81,46 @@ fn parts_outcome(alloc: Global, count: u64) -> Text {
 
 // The answer with the lengths of these components, of their text and of their encoding.
 fn lengths(alloc: Global, text: &str, identifier: ObjectIdentifier) -> Text {
-    let mut again = Text::new(alloc, "");
-    again.push_value(&identifier);
-    let Ok(again) = again.finish() else {
-        return Text::when_out_of_memory(alloc);
-    };
-    if again.as_str() != text {
-        return Text::new(alloc, "another text");
-    }
     let count = identifier.components().len();
-    match written_length(alloc, &Element::value(Leaf::Identifier(identifier))) {
-        Ok(encoding) => Text::counts(alloc, &[count, text.len(), encoding]),
-        Err(error) => Text::rejected(alloc, error.kind()),
+    match is_shown_as(alloc, &identifier, text) {
+        Ok(true) => {
+            let element = Element::value(Leaf::Identifier(identifier));
+            match written_length(alloc, &element) {
+                Ok(encoding) => Text::counts(alloc, &[count, text.len(), encoding]),
+                Err(error) => Text::rejected(alloc, error.kind()),
+            }
+        }
+        Ok(false) => Text::new(alloc, "another text"),
+        Err(_) => Text::when_out_of_memory(alloc),
     }
+}
+
+// Whether the text shows these components.
+fn is_shown_as(
+    alloc: Global,
+    identifier: &ObjectIdentifier,
+    text: &str,
+) -> Result<bool, AllocError> {
+    let mut shown = Text::new(alloc, "");
+    shown.push_value(identifier);
+    Ok(shown.finish()?.as_str() == text)
 }
 
 // How many bytes are written of components, which are read again as they were.
 fn written_length(alloc: Global, written: &Element) -> ASN1Result<usize> {
     let encoding = encoding_of(alloc, BERMode::Der, written)?;
     let read = parse(alloc, BERMode::Der, IDENTIFIER, &encoding)?;
-    match (read.leaf(), written.leaf()) {
-        (Some(Leaf::Identifier(read)), Some(Leaf::Identifier(written))) if *read == *written => {
-            Ok(encoding.len())
-        }
-        _ => Err(ASN1Error::new(ASN1ErrorKind::Invalid)),
+    if are_same(read.leaf(), written.leaf()) {
+        Ok(encoding.len())
+    } else {
+        Err(ASN1Error::new(ASN1ErrorKind::Invalid))
+    }
+}
+
+// Whether both are one object identifier.
+fn are_same(one: Option<&Leaf>, other: Option<&Leaf>) -> bool {
+    match (one, other) {
+        (Some(Leaf::Identifier(one)), Some(Leaf::Identifier(other))) => *one == *other,
+        _ => false,
     }
 }

@@ -72,13 +72,10 @@ impl Piece {
         let Piece(frame, kind) = self;
         let read = |inner: BERReader| kind.read(inner);
         match frame {
-            Frame::Explicit(tag) => Ok(Part::new(frame, reader.read_tagged(tag, read)?)),
-            Frame::Implicit(tag) => Ok(Part::new(frame, reader.read_tagged_implicit(tag, read)?)),
-            Frame::LookedAt => {
-                let tag = reader.lookahead_tag()?;
-                Ok(Part::new(Frame::Implicit(tag), kind.read(reader)?))
-            }
-            Frame::Plain | Frame::Unwritten => Ok(Part::new(frame, kind.read(reader)?)),
+            Frame::Explicit(tag) => Part::of(frame, reader.read_tagged(tag, read)),
+            Frame::Implicit(tag) => Part::of(frame, reader.read_tagged_implicit(tag, read)),
+            Frame::LookedAt => read_looked_at(kind, reader),
+            Frame::Plain | Frame::Unwritten => Part::of(frame, kind.read(reader)),
         }
     }
 
@@ -94,6 +91,12 @@ impl Piece {
     }
 }
 
+// Reads a part, which is under its own tag.
+fn read_looked_at(kind: ElementType, reader: BERReader) -> ASN1Result<Part> {
+    let tag = reader.lookahead_tag()?;
+    Part::of(Frame::Implicit(tag), kind.read(reader))
+}
+
 impl Part {
     /// The part of this value.
     pub fn new(frame: Frame, leaf: Leaf) -> Part {
@@ -101,6 +104,14 @@ impl Part {
             frame,
             leaf,
             taken: None,
+        }
+    }
+
+    // The part of the value that was read.
+    fn of(frame: Frame, leaf: ASN1Result<Leaf>) -> ASN1Result<Part> {
+        match leaf {
+            Ok(leaf) => Ok(Part::new(frame, leaf)),
+            Err(error) => Err(error),
         }
     }
 

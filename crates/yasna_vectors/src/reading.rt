@@ -11,28 +11,33 @@ use yasna::{ASN1ErrorKind, ASN1Result, BERMode, BERReader, BERReaderSeq, parse_b
 
 /// What a call that reads returns on these bytes.
 pub fn outcome(alloc: Global, mode: BERMode, case: &Case, bytes: &[u8]) -> Outcome {
-    let first = Read::named(case.call)?;
-    let second = match case.second {
-        Some(name) => Read::named(name)?,
-        None => first,
-    };
-    match parse(alloc, mode, first, bytes) {
+    let both = Both::parse(alloc, case)?;
+    match parse(alloc, mode, both.first, bytes) {
+        Ok(element) => Some(shown(alloc, mode, &element)),
         Err(error) if case.marked || case.second.is_some() => {
-            let both = Both {
-                alloc,
-                first,
-                second,
-            };
             both.outcome(mode, case, bytes, error.kind())
         }
         Err(error) => Some(Text::rejected(alloc, error.kind())),
-        Ok(element) => Some(shown(alloc, mode, &element)),
     }
 }
 
 /// What a call reads of these bytes by the parse of this mode.
 pub fn parse(alloc: Global, mode: BERMode, read: Read, bytes: &[u8]) -> ASN1Result<Element> {
     parse_in(alloc, mode, bytes, |reader| read.read(alloc, reader))
+}
+
+/// What a call reads of these bytes, and how many are written of it.
+pub fn read_and_length(
+    alloc: Global,
+    mode: BERMode,
+    read: Read,
+    bytes: &[u8],
+) -> ASN1Result<(Element, usize)> {
+    let element = parse(alloc, mode, read, bytes)?;
+    match encoding_of(alloc, mode, &element) {
+        Ok(written) => Ok((element, written.len())),
+        Err(error) => Err(error),
+    }
 }
 
 /// The answer `ok`, with an element and what is written of it.
@@ -63,35 +68,49 @@ struct Kinds {
 }
 
 impl Both {
+    // The calls that a case names.
+    fn parse(alloc: Global, case: &Case) -> Option<Both> {
+        let first = Read::named(case.call)?;
+        let second = match case.second {
+            Some(name) => Read::named(name)?,
+            None => first,
+        };
+        Some(Both {
+            alloc,
+            first,
+            second,
+        })
+    }
+
     // The answer of a call that was rejected, and whether the error is kept: both calls are made in a SEQUENCE of these
     // bytes, which hold no more than a length of one byte can say; in CER, where it would have no length, without one.
     fn outcome(self, mode: BERMode, case: &Case, bytes: &[u8], kind: ASN1ErrorKind) -> Outcome {
-        let mut whole = Vec::new(self.alloc);
-        if mode != BERMode::Cer {
-            let length = u8::try_from(bytes.len()).ok()?;
-            if length > 127 {
-                return None;
-            }
-            if whole.extend_from_slice(&[48, length]).is_err() {
-                return Some(Text::when_out_of_memory(self.alloc));
-            }
+        let length = match u8::try_from(bytes.len()) {
+            Ok(length) if length <= 127 => length,
+            _ if mode == BERMode::Cer => 0,
+            _ => return None,
+        };
+        match sequence_of(self.alloc, mode, length, bytes) {
+            Ok(whole) => Some(self.marked(mode, &whole, kind, case.second.is_some())),
+            Err(_) => Some(Text::when_out_of_memory(self.alloc)),
         }
-        if whole.extend_from_slice(bytes).is_err() {
-            return Some(Text::when_out_of_memory(self.alloc));
-        }
+    }
+
+    // The answer of both calls in these bytes.
+    fn marked(self, mode: BERMode, whole: &[u8], kind: ASN1ErrorKind, differs: bool) -> Text {
         let mut kinds = Kinds {
             first: None,
             second: None,
         };
         let parsed = kind_of(parse_ber_general(
             self.alloc,
-            &whole,
+            whole,
             mode,
             |reader| self.read(reader, &mut kinds),
         ));
         let mut text = Text::rejected(self.alloc, kind);
-        text.push(kinds.mark(parsed, kind, case.second.is_some()));
-        Some(text)
+        text.push(kinds.mark(parsed, kind, differs));
+        text
     }
 
     // Makes both calls, in CER in no SEQUENCE.
@@ -113,6 +132,21 @@ impl Both {
         let second = kind_of(self.second.read(self.alloc, seq.next()));
         Kinds { first, second }
     }
+}
+
+// The bytes after the header of a SEQUENCE of this length; in CER alone.
+fn sequence_of(
+    alloc: Global,
+    mode: BERMode,
+    length: u8,
+    bytes: &[u8],
+) -> Result<Vec<u8>, AllocError> {
+    let mut whole = Vec::new(alloc);
+    if mode != BERMode::Cer {
+        whole.extend_from_slice(&[48, length])?;
+    }
+    whole.extend_from_slice(bytes)?;
+    Ok(whole)
 }
 
 impl Kinds {

@@ -78,21 +78,47 @@ impl Read {
     /// Makes the call.
     pub fn read(self, alloc: Global, reader: BERReader) -> ASN1Result<Element> {
         let Read(then, body) = self;
-        if let Then::Under(tag) = then {
-            let element = reader.read_tagged_implicit(tag, |inner| body.read(alloc, inner))?;
-            return Ok(element.under(tag));
-        }
-        let read = body.read(alloc, reader);
         match then {
-            Then::Shown | Then::Under(_) => read,
-            Then::Last => Ok(read?.last()),
-            Then::Null => {
-                read?;
-                Ok(Element::value(Leaf::Null))
-            }
+            Then::Under(tag) => body.read_under(tag, alloc, reader),
+            _ => then.of(body.read(alloc, reader)),
+        }
+    }
+}
+
+impl Then {
+    // What is made of what was read.
+    fn of(self, read: ASN1Result<Element>) -> ASN1Result<Element> {
+        match self {
             Then::Discarded => Ok(Element::value(Leaf::Null)),
             Then::Replaced => Err(ASN1Error::new(ASN1ErrorKind::Extra)),
+            Then::Shown | Then::Under(_) => read,
+            Then::Last => Ok(read?.last()),
+            Then::Null => null_for(read),
         }
+    }
+}
+
+// NULL in place of an element.
+fn null_for(read: ASN1Result<Element>) -> ASN1Result<Element> {
+    match read {
+        Ok(_) => Ok(Element::value(Leaf::Null)),
+        Err(error) => Err(error),
+    }
+}
+
+// The part alone that was read.
+fn alone(part: ASN1Result<Part>) -> ASN1Result<Element> {
+    match part {
+        Ok(part) => Ok(Element::alone(part)),
+        Err(error) => Err(error),
+    }
+}
+
+// The parts that were read.
+fn grouped(group: Group, parts: ASN1Result<Vec<Part>>) -> ASN1Result<Element> {
+    match parts {
+        Ok(parts) => Ok(Element::group(group, parts)),
+        Err(error) => Err(error),
     }
 }
 
@@ -112,20 +138,26 @@ impl Body {
         }
     }
 
+    // Reads it under an implicit tag.
+    fn read_under(self, tag: Tag, alloc: Global, reader: BERReader) -> ASN1Result<Element> {
+        let element = reader.read_tagged_implicit(tag, |inner| self.read(alloc, inner))?;
+        Ok(element.under(tag))
+    }
+
     // Reads it.
     fn read(self, alloc: Global, reader: BERReader) -> ASN1Result<Element> {
         match self {
-            Body::Alone(piece) => Ok(Element::alone(piece.read(reader)?)),
-            Body::Buffered(piece) => Ok(Element::alone(read_buffered(alloc, piece, reader)?)),
-            Body::Tree => Ok(Element::alone(read_tree(alloc, reader)?)),
-            Body::Sequence(steps) => {
-                let parts = reader.read_sequence(|seq| read_steps(alloc, steps, seq))?;
-                Ok(Element::group(Group::Sequence, parts))
-            }
-            Body::Set(steps) => {
-                let parts = reader.read_set(|set| read_choices(alloc, steps, set))?;
-                Ok(Element::group(Group::Set, parts))
-            }
+            Body::Alone(piece) => alone(piece.read(reader)),
+            Body::Buffered(piece) => alone(read_buffered(alloc, piece, reader)),
+            Body::Tree => alone(read_tree(alloc, reader)),
+            Body::Sequence(steps) => grouped(
+                Group::Sequence,
+                reader.read_sequence(|seq| read_steps(alloc, steps, seq)),
+            ),
+            Body::Set(steps) => grouped(
+                Group::Set,
+                reader.read_set(|set| read_choices(alloc, steps, set)),
+            ),
             Body::List(group, piece) => read_list(group, piece, reader),
             Body::Each(group, kind) => read_each(group, kind, reader),
         }
@@ -135,27 +167,36 @@ impl Body {
 // Collects the items of a list.
 fn read_list(group: Group, piece: Piece, reader: BERReader) -> ASN1Result<Element> {
     let read = |item: BERReader| piece.read(item);
-    let parts = match group {
-        Group::SetOf => reader.collect_set_of(read)?,
-        _ => reader.collect_sequence_of(read)?,
-    };
-    Ok(Element::group(group, parts))
+    match group {
+        Group::SetOf => grouped(group, reader.collect_set_of(read)),
+        _ => grouped(group, reader.collect_sequence_of(read)),
+    }
 }
 
 // Reads the sum of those items of a list that are INTEGERs.
 fn read_each(group: Group, kind: ElementType, reader: BERReader) -> ASN1Result<Element> {
     let mut sum = 0i64;
     let add = |item: BERReader| {
-        if let Leaf::I64(number) = kind.read(item)? {
-            sum = sum.wrapping_add(number);
-        }
+        sum = sum.wrapping_add(number_of(kind.read(item))?);
         Ok(())
     };
-    match group {
-        Group::SetOf => reader.read_set_of(add)?,
-        _ => reader.read_sequence_of(add)?,
+    let read = match group {
+        Group::SetOf => reader.read_set_of(add),
+        _ => reader.read_sequence_of(add),
+    };
+    match read {
+        Ok(()) => Ok(Element::value(Leaf::I64(sum))),
+        Err(error) => Err(error),
     }
-    Ok(Element::value(Leaf::I64(sum)))
+}
+
+// The INTEGER that was read; 0 for anything else.
+fn number_of(read: ASN1Result<Leaf>) -> ASN1Result<i64> {
+    match read {
+        Ok(Leaf::I64(number)) => Ok(number),
+        Ok(_) => Ok(0),
+        Err(error) => Err(error),
+    }
 }
 
 // The parts of a SEQUENCE that a text is, in brackets and with commas between them.

@@ -126,30 +126,41 @@ pub fn read_buffered(alloc: Global, piece: Piece, reader: BERReader) -> ASN1Resu
     part.with_taken(alloc, taken)
 }
 
+// What is shown of a part that is discarded: nothing.
+fn discarded(_part: ASN1Result<Option<Part>>) -> ASN1Result<Option<Part>> {
+    Ok(None)
+}
+
 impl Step {
     // Takes the step: the part that is shown, if any is.
     fn read(self, alloc: Global, seq: &mut BERReaderSeq) -> ASN1Result<Option<Part>> {
         let Step(ask, piece) = self;
         match ask {
-            Ask::Next => Ok(Some(piece.read(seq.next())?)),
+            Ask::Next => read_next(piece, seq),
             Ask::Optional => read_optional(piece, seq),
-            Ask::Ten => Ok(Some(read_ten(seq)?)),
-            Ask::Discarded => {
-                let _ = piece.read(seq.next());
-                Ok(None)
-            }
-            Ask::OptionalDiscarded => {
-                let _ = read_optional(piece, seq);
-                Ok(None)
-            }
-            Ask::Buffered => {
-                let (part, taken) = seq.read_with_buffer(|parts| piece.read(parts.next()))?;
-                Ok(Some(part.with_taken(alloc, taken)?))
-            }
+            Ask::Ten => read_ten(seq),
+            Ask::Discarded => discarded(read_next(piece, seq)),
+            Ask::OptionalDiscarded => discarded(read_optional(piece, seq)),
+            Ask::Buffered => read_parts_buffered(alloc, piece, seq),
             Ask::NextBuffered => Ok(Some(read_buffered(alloc, piece, seq.next())?)),
             Ask::Rejected(kind) => Err(ASN1Error::new(kind)),
         }
     }
+}
+
+// Reads the next part.
+fn read_next(piece: Piece, seq: &mut BERReaderSeq) -> ASN1Result<Option<Part>> {
+    Ok(Some(piece.read(seq.next())?))
+}
+
+// Reads the next part, and the bytes that the parts took for it.
+fn read_parts_buffered(
+    alloc: Global,
+    piece: Piece,
+    seq: &mut BERReaderSeq,
+) -> ASN1Result<Option<Part>> {
+    let (part, taken) = seq.read_with_buffer(|parts| piece.read(parts.next()))?;
+    Ok(Some(part.with_taken(alloc, taken)?))
 }
 
 // Reads a part that may be absent.
@@ -166,11 +177,11 @@ fn shown(part: Option<Part>) -> Option<Part> {
 }
 
 // Reads an INTEGER, 10 where there is none.
-fn read_ten(seq: &mut BERReaderSeq) -> ASN1Result<Part> {
-    Ok(match seq.read_default(10, read_integer)? {
+fn read_ten(seq: &mut BERReaderSeq) -> ASN1Result<Option<Part>> {
+    Ok(Some(match seq.read_default(10, read_integer)? {
         10 => Part::unwritten(Leaf::I64(10)),
         other => Part::plain(Leaf::I64(other)),
-    })
+    }))
 }
 
 // Reads an INTEGER.
@@ -182,28 +193,31 @@ impl Choice {
     // Takes the step: the element that is shown, if any is.
     fn read(self, set: &mut BERReaderSet) -> ASN1Result<Option<Part>> {
         match self {
-            Choice::Next(tags, piece) => Ok(Some(piece.read(set.next(tags)?)?)),
-            Choice::Asked(tags) => {
-                set.next(tags)?;
-                Ok(None)
-            }
-            Choice::AskedInVain(tags) => {
-                let _ = set.next(tags);
-                Ok(None)
-            }
+            Choice::Next(tags, piece) => read_next_element(tags, piece, set),
+            Choice::Asked(tags) => asked(tags, set),
+            Choice::AskedInVain(tags) => discarded(asked(tags, set)),
             Choice::Optional(tags, piece) => read_element(tags, piece, set),
-            Choice::OptionalDiscarded(tags, piece) => {
-                let _ = read_element(tags, piece, set);
-                Ok(None)
-            }
-            Choice::Default(default) => Ok(Some(read_flag(default, set)?)),
-            Choice::DefaultDiscarded(default) => {
-                let _ = read_flag(default, set);
-                Ok(None)
-            }
+            Choice::OptionalDiscarded(tags, piece) => discarded(read_element(tags, piece, set)),
+            Choice::Default(default) => read_flag(default, set),
+            Choice::DefaultDiscarded(default) => discarded(read_flag(default, set)),
             Choice::Any => Ok(None),
         }
     }
+}
+
+// Reads the next element with these tags.
+fn read_next_element(
+    tags: &[Tag],
+    piece: Piece,
+    set: &mut BERReaderSet,
+) -> ASN1Result<Option<Part>> {
+    Ok(Some(piece.read(set.next(tags)?)?))
+}
+
+// Asks for the next element with these tags, and doesn't read it.
+fn asked(tags: &[Tag], set: &mut BERReaderSet) -> ASN1Result<Option<Part>> {
+    set.next(tags)?;
+    Ok(None)
 }
 
 // Reads an element that may be absent.
@@ -212,14 +226,14 @@ fn read_element(tags: &[Tag], piece: Piece, set: &mut BERReaderSet) -> ASN1Resul
 }
 
 // Reads a BOOLEAN, which is the default where there is none.
-fn read_flag(default: bool, set: &mut BERReaderSet) -> ASN1Result<Part> {
+fn read_flag(default: bool, set: &mut BERReaderSet) -> ASN1Result<Option<Part>> {
     let flag = set.read_default(&[TAG_BOOLEAN], default, read_boolean)?;
     let frame = if flag == default {
         Frame::Unwritten
     } else {
         Frame::Plain
     };
-    Ok(Part::new(frame, Leaf::Bool(flag)))
+    Ok(Some(Part::new(frame, Leaf::Bool(flag))))
 }
 
 // Reads a BOOLEAN.

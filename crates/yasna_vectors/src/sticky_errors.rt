@@ -153,37 +153,61 @@ fn read_parts<B: Body>(
     outcomes.discard(discarded)
 }
 
+// The calls around a read, from the outer one.
+#[derive(Clone, Copy)]
+enum Calls {
+    None,
+    One(Call),
+    Two(Call, Call),
+}
+
 /// What a call of this family returns on these bytes.
 pub fn outcome(alloc: Global, mode: BERMode, call: &str, bytes: &[u8]) -> Outcome {
     let (name, calls) = call.split_once(':')?;
-    let mut outcomes = Outcomes {
-        first: None,
-        others: false,
-        replaces: match name {
-            "drop" => false,
-            "replace" => true,
-            _ => return None,
-        },
+    let replaces = match name {
+        "drop" => false,
+        "replace" => true,
+        _ => return None,
     };
-    let body = Integer;
-    if calls == "parse" {
-        parse(alloc, mode, bytes, body, &mut outcomes);
-        return Some(shown(alloc, outcomes));
+    Some(calls_named(calls)?.outcome(alloc, mode, bytes, replaces))
+}
+
+// The calls of these names.
+fn calls_named(names: &str) -> Option<Calls> {
+    if names == "parse" {
+        return Some(Calls::None);
     }
-    let (outer, inner) = match calls.split_once('.') {
-        Some((outer, inner)) => (Some(outer), inner),
-        None => (None, calls),
-    };
-    let call = named(&CALLS, inner)?;
-    let body = Around { call, body };
-    match outer {
-        Some(outer) => {
-            let call = named(&CALLS, outer)?;
-            parse(alloc, mode, bytes, Around { call, body }, &mut outcomes);
+    match names.split_once('.') {
+        Some((outer, inner)) => Some(Calls::Two(named(&CALLS, outer)?, named(&CALLS, inner)?)),
+        None => Some(Calls::One(named(&CALLS, names)?)),
+    }
+}
+
+impl Calls {
+    // What they return on these bytes.
+    fn outcome(self, alloc: Global, mode: BERMode, bytes: &[u8], replaces: bool) -> Text {
+        let mut outcomes = Outcomes {
+            first: None,
+            others: false,
+            replaces,
+        };
+        let body = Integer;
+        match self {
+            Calls::None => parse(alloc, mode, bytes, body, &mut outcomes),
+            Calls::One(call) => parse(alloc, mode, bytes, Around { call, body }, &mut outcomes),
+            Calls::Two(outer, inner) => {
+                let body = Around { call: inner, body };
+                parse(
+                    alloc,
+                    mode,
+                    bytes,
+                    Around { call: outer, body },
+                    &mut outcomes,
+                );
+            }
         }
-        None => parse(alloc, mode, bytes, body, &mut outcomes),
+        shown(alloc, outcomes)
     }
-    Some(shown(alloc, outcomes))
 }
 
 // Makes a parse whose callback discards what it reads.

@@ -42,14 +42,17 @@ pub fn outcome(alloc: Global, call: &str, arg: &str) -> Outcome {
         return Some(length::outcome(alloc, name, arg.parse().ok()?));
     }
     match element(alloc, name, arg)? {
-        Ok(element) => {
-            let encoding = encoding_in(alloc, around, &element)?;
-            let mut text = Text::new(alloc, "ok ");
-            element.show(&mut text);
-            Some(text.with_encoding(encoding))
-        }
+        Ok(element) => shown(alloc, around, &element),
         Err(_) => Some(Text::when_out_of_memory(alloc)),
     }
+}
+
+// The answer with an element and what this call writes of it.
+fn shown(alloc: Global, around: &str, element: &Element) -> Outcome {
+    let encoding = encoding_in(alloc, around, element)?;
+    let mut text = Text::new(alloc, "ok ");
+    element.show(&mut text);
+    Some(text.with_encoding(encoding))
 }
 
 // What is written of an element by this call around the writing.
