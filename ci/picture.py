@@ -129,7 +129,7 @@ def middles(layers, lines):
     for sweep in range(SWEEPS):
         for layer in layers if sweep % 2 == 0 else reversed(layers):
             sides = {box: above.get(box, []) + below.get(box, []) for box in layer}
-            at |= spread(layer, {box: mean(at[side] for side in sides[box]) for box in layer})
+            at |= spread(layer, {box: mean([at[side] for side in sides[box]] or [at[box]]) for box in layer})
     return at
 
 

@@ -1,0 +1,4 @@
+pub mod Items
+pub mod Runs
+pub mod Spacings
+pub mod Tokens

@@ -1,0 +1,11 @@
+use Rattle.std.proofs.Common.{◌≡◌, length}
+use Rattle.std.specs.Char.{is_ascii_digit}
+use Rattle.asn1_syntax.specs.Spacing.{after_run}
+use Rattle.asn1_syntax.specs.Items.{first_is}
+use Rattle.asn1_syntax.proofs.item.after_digits.Given as goal
+
+abbrev pub invariant-loop-rest : goal.invariant-loop-rest
+invariant-loop-rest l = after_run (first_is is_ascii_digit) l.rest ≡ after_run (first_is is_ascii_digit) l.text
+
+abbrev pub decreases-loop-rest : goal.decreases-loop-rest
+decreases-loop-rest l = length l.rest
