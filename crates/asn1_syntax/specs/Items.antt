@@ -117,6 +117,7 @@ IsMissing CommentEnd s = IsUnclosedComment s
 IsMissing StringEnd s = IsUnclosedString s
 IsMissing QuotedDigits s = IsMisquoted s
 IsMissing Item s = IsNoItem s
+IsMissing _ s = ⊥
 
 -- a text begins with a lexical item of a kind
 pub record BeginsItem (kind : TokenKind) (s after : List ℕ) : Type 0 where

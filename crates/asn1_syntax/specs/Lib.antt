@@ -1,3 +1,5 @@
 pub mod Spacing
 pub mod Items
 pub mod Lexing
+pub mod Tree
+pub mod Parsing

@@ -16,11 +16,35 @@ pub enum Expected {
     StringEnd,
     /// Digits between apostrophes, and then `B` or `H`.
     QuotedDigits,
+    /// A lexical item with this text.
+    Text(&'static str),
+    /// A typereference or a modulereference.
+    TypeReference,
+    /// An identifier or a valuereference.
+    Identifier,
+    /// The number of a tag.
+    TagNumber,
+    /// A type.
+    Type,
+    /// A value.
+    Value,
+    /// An assignment that is no macro.
+    NoMacro,
+    /// Types that nest less deeply.
+    FewerLevels,
 }
 
 impl fmt::Display for Expected {
     fn fmt<W: fmt::Write>(&self, f: &mut fmt::Formatter<W>) -> fmt::Result {
         f.write_str(match self {
+            Expected::Text(text) => return write!(f, "`{text}`"),
+            Expected::TypeReference => "a word that begins with a capital",
+            Expected::Identifier => "a word that begins with a small letter",
+            Expected::TagNumber => "the number of a tag",
+            Expected::Type => "a type",
+            Expected::Value => "a value",
+            Expected::NoMacro => "an assignment, and no macro",
+            Expected::FewerLevels => "at most 100 levels of types",
             Expected::Item => "a lexical item",
             Expected::CommentEnd => "a comment that ends",
             Expected::StringEnd => "a string that ends",

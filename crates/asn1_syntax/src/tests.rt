@@ -1,6 +1,7 @@
 //! What sources are read as. The sources are written by hand; the clauses of X.680 are named beside them.
 
-use crate::{Expected, SyntaxError, lex};
+use crate::tree::{Assignment, Part, TagDefault, TypeNotation};
+use crate::{Expected, SyntaxError, lex, parse};
 use std::alloc::Global;
 use std::process::Abort;
 
@@ -73,4 +74,133 @@ fn sources_are_rejected(rt: HostRuntime) {
         };
         assert!(rt; rejected, "{:?}", *source);
     }
+}
+
+/// A module, and how many assignments it has.
+type ModuleRow = (&'static [u8], usize);
+
+static MODULE_ROWS: [ModuleRow; 9] = [
+    (b"M DEFINITIONS ::= BEGIN END", 0),
+    (
+        b"M { iso 1 } DEFINITIONS IMPLICIT TAGS EXTENSIBILITY IMPLIED ::= BEGIN EXPORTS A, b; IMPORTS C, d FROM N { 2 } E FROM O; A ::= C END",
+        1,
+    ),
+    (
+        b"M DEFINITIONS ::= BEGIN IMPORTS ; A ::= BOOLEAN B ::= OCTET STRING (SIZE (1..MAX)) C ::= INTEGER { one(1) } (0..255, ...) END",
+        3,
+    ),
+    (
+        b"M DEFINITIONS ::= BEGIN A ::= SEQUENCE { a [0] EXPLICIT B OPTIONAL, b INTEGER DEFAULT -1, COMPONENTS OF C, ..., [[ 2: c D ]], ... } END",
+        1,
+    ),
+    (
+        b"M DEFINITIONS ::= BEGIN A ::= SET SIZE (1..3) OF SEQUENCE OF item CHOICE { a NULL, ..., b [APPLICATION 3] IMPLICIT N.B } END",
+        1,
+    ),
+    (
+        b"M DEFINITIONS ::= BEGIN A ::= a < B C ::= SEQUENCE { type OBJECT IDENTIFIER, value ANY DEFINED BY type } END",
+        2,
+    ),
+    (
+        b"M DEFINITIONS ::= BEGIN a OBJECT IDENTIFIER ::= { b 3 } b INTEGER ::= -5 c C ::= d : TRUE D INTEGER ::= { 1 | 2 } END",
+        4,
+    ),
+    (
+        b"M DEFINITIONS ::= BEGIN A ::= ENUMERATED { a(0), b, ..., c } B ::= BIT STRING { d(0) } (CONTAINING A) END",
+        2,
+    ),
+    (
+        b"M DEFINITIONS ::= BEGIN A ::= SEQUENCE { } B ::= P { A, { b } } END",
+        2,
+    ),
+];
+
+static BAD_MODULE_ROWS: [BadRow; 8] = [
+    (b"", 0, Expected::TypeReference),
+    (b"M DEFINITIONS ::= BEGIN A ::= END", 30, Expected::Type),
+    (
+        b"M DEFINITIONS ::= BEGIN X MACRO ::= BEGIN END END",
+        24,
+        Expected::NoMacro,
+    ),
+    (
+        b"M DEFINITIONS ::= BEGIN A ::= SEQUENCE { a B c D } END",
+        45,
+        Expected::Text(","),
+    ),
+    (
+        b"M DEFINITIONS ::= BEGIN A ::= SEQUENCE { a B, } END",
+        46,
+        Expected::Identifier,
+    ),
+    (
+        b"M DEFINITIONS ::= BEGIN A ::= [B] C END",
+        31,
+        Expected::TagNumber,
+    ),
+    (
+        b"M DEFINITIONS ::= BEGIN a A ::= } END",
+        32,
+        Expected::Value,
+    ),
+    (b"M DEFINITIONS ::= BEGIN", 23, Expected::Text("END")),
+];
+
+// Whether a source is one module of so many assignments.
+fn is_module(alloc: Global, source: &[u8], assignments: usize) -> bool {
+    match parse(alloc, source) {
+        Ok(modules) => match modules.as_slice() {
+            [module] => module.assignments.len() == assignments,
+            _ => false,
+        },
+        Err(_) => false,
+    }
+}
+
+#[test]
+fn modules_are_read(rt: HostRuntime) {
+    for (source, assignments) in &MODULE_ROWS {
+        assert!(rt;
+            is_module(rt.alloc(), source, *assignments),
+            "{:?}",
+            *source
+        );
+    }
+}
+
+#[test]
+fn modules_are_rejected(rt: HostRuntime) {
+    for (source, offset, expected) in &BAD_MODULE_ROWS {
+        let rejected = match parse(rt.alloc(), source) {
+            Err(
+                SyntaxError::Malformed {
+                    offset: place,
+                    expected: missing,
+                },
+            ) => place == *offset && missing == *expected,
+            _ => false,
+        };
+        assert!(rt; rejected, "{:?}", *source);
+    }
+}
+
+// The names of the components of the first type of a module.
+fn component_names(alloc: Global, source: &[u8]) -> Option<usize> {
+    let modules = parse(alloc, source).ok()?;
+    let module = modules.first()?;
+    let Assignment::Type(_, TypeNotation::Constructed(_, components)) = module.assignments.first()?
+    else {
+        return None;
+    };
+    let count = components
+        .iter()
+        .filter(|component| matches!(component.part, Part::Named(..)))
+        .count();
+    (module.tags == TagDefault::Automatic).then_some(count)
+}
+
+#[test]
+fn components_have_names(rt: HostRuntime) {
+    let source = b"M DEFINITIONS AUTOMATIC TAGS ::= BEGIN A ::= SET { a B, ..., [[ c D ]] } END";
+    assert!(rt; component_names(rt.alloc(), source) == Some(2));
 }
