@@ -7,7 +7,7 @@ pub enum TokenKind {
     TypeReference,
     /// A word that begins with a small letter: an identifier or a valuereference (X.680, 12.3).
     Identifier,
-    /// Digits (X.680, 12.8). A first digit of zero is allowed.
+    /// Digits (X.680, 12.8). The first of several may be zero. A realnumber (X.680, 12.9) is several items.
     Number,
     /// Binary digits in apostrophes (X.680, 12.10).
     BString,
@@ -15,7 +15,7 @@ pub enum TokenKind {
     HString,
     /// A character string in quotation marks (X.680, 12.14).
     CString,
-    /// A symbol, as `{` or `::=` (X.680, 12.20 to 12.24 and 12.37).
+    /// A symbol, as `{` or `::=` (X.680, 12.20 to 12.24 and 12.37), or `&` or `*`.
     Symbol,
 }
 
