@@ -1,0 +1,4 @@
+pub mod Sizes
+pub mod Numbers
+pub mod Combined
+pub mod Defaults
