@@ -3,44 +3,70 @@
 //! `options` has those of the command line. `asn1show_lines` makes the lines, and `program_io` has the input and the standard streams.
 #![tactic(auto)]
 
+ghost use Rattle.std.specs.Prelude.{◌≡◌, ◌↔◌, if◌then◌else◌};
+ghost use Rattle.asn1show_printer.specs.Conformance.{accepts};
+ghost use Rattle.asn1show_walk.specs.Errors.{IsExternal};
+
 mod options;
 
+use asn1show_lines::{Conformance, Output, Selection};
 use asn1show_walk::WalkError;
 use options::{Options, options_of};
 use program_io::{ProgramError, arguments, explain, report};
 use std::io::{BufWriter, Write};
 use std::process::ExitCode;
 
-// The status if the input is malformed.
+// The status if the input is malformed, or a check of it fails.
 const MALFORMED: u8 = 1;
 
-fn show(rt: &HostRuntime, options: &Options<'_>, input: &[u8]) -> Result<(), WalkError> {
+// Lists an input, and returns the conformance of its elements.
+fn show(rt: &HostRuntime, options: &Options<'_>, input: &[u8]) -> Result<Conformance, WalkError> {
     let Options {
         mode,
         input_format,
-        width,
+        view,
         ..
     } = *options;
-    let mut out = BufWriter::new(rt.alloc(), rt.stdout())?;
-    let shown = asn1show_lines::show(rt.alloc(), &mut out, mode, input_format, width, input);
+    let mut out = Output::new(BufWriter::new(rt.alloc(), rt.stdout())?);
+    let shown = asn1show_lines::show(rt.alloc(), &mut out, mode, input_format, view, input);
     let flushed = out.flush();
     shown?;
-    Ok(flushed?)
+    flushed?;
+    Ok(out.conformance())
 }
 
-// Lists an input that was read, and returns the status.
-fn list(rt: &HostRuntime, options: &Options<'_>, input: &[u8]) -> u8 {
-    let Err(error) = show(rt, options, input) else {
-        return 0;
-    };
+// The status after elements were listed: 0, or in a check 1 where they aren't in its rules.
+fn listed_status(selection: Selection, conformance: Conformance) -> u8
+    ensures { result ≡ if accepts selection conformance then 0 else 1 }
+{
+    if selection.accepts(conformance) {
+        0
+    } else {
+        MALFORMED
+    }
+}
+
+// Prints why an input wasn't listed to its end, and returns the status.
+fn failed_status(rt: &HostRuntime, name: &str, error: WalkError) -> u8
+    ensures malformed { (result ≡ 1) ↔ (IsExternal error → ⊥) }
+    ensures external { (result ≡ 3) ↔ IsExternal error }
+{
     match error {
         WalkError::Malformed { .. } => {
-            report(rt, options.input.name(), &error);
+            report(rt, name, &error);
             MALFORMED
         }
         WalkError::Memory => ProgramError::Memory.report(rt),
         WalkError::Output => ProgramError::Output.report(rt),
         WalkError::ClosedOutput => ProgramError::ClosedPipe.report(rt),
+    }
+}
+
+// Lists an input that was read, and returns the status.
+fn list(rt: &HostRuntime, options: &Options<'_>, input: &[u8]) -> u8 {
+    match show(rt, options, input) {
+        Ok(conformance) => listed_status(options.view.selection, conformance),
+        Err(error) => failed_status(rt, options.input.name(), error),
     }
 }
 

@@ -1,6 +1,6 @@
 //! The options of the command line.
 
-use asn1show_lines::InputFormat;
+use asn1show_lines::{InputFormat, Selection, View};
 use clap::{Arg, ArgAction, ArgMatches, Command, Error};
 use program_io::{Input, VERSION};
 use std::alloc::{AllocError, Global};
@@ -13,13 +13,15 @@ pub struct Options<'a> {
     pub mode: BERMode,
     /// The format of the input, or None if it is to be detected.
     pub input_format: Option<InputFormat>,
-    /// The most hexadecimal digits that are shown of a value.
-    pub width: usize,
+    /// What is shown of the elements, and how.
+    pub view: View,
     /// What is read.
     pub input: Input<'a>,
 }
 
 const WIDTH: usize = 64;
+
+static MODES: [&str; 3] = ["ber", "der", "cer"];
 
 // A flag that excludes two other flags.
 struct Flag {
@@ -88,6 +90,19 @@ fn width_arg<'a>(alloc: Global) -> Arg<'a> {
     .value_parser(clap::value_parser!(u32))
 }
 
+fn check_arg<'a>(alloc: Global) -> Arg<'a> {
+    value_arg(
+        alloc,
+        "check",
+        "Show only what these rules reject (by default those that are read)",
+    )
+    .long("check")
+    .value_name("MODE")
+    .num_args(0..=1)
+    .require_equals(true)
+    .value_parser(MODES.as_slice())
+}
+
 fn file_arg<'a>(alloc: Global) -> Arg<'a> {
     value_arg(
         alloc,
@@ -102,6 +117,7 @@ fn push_flag(alloc: Global, args: &mut Vec<Arg<'_>>, flag: &Flag) -> Result<(), 
 }
 
 fn push_values(alloc: Global, args: &mut Vec<Arg<'_>>) -> Result<(), AllocError> {
+    args.push(check_arg(alloc))?;
     args.push(width_arg(alloc))?;
     Ok(args.push(file_arg(alloc))?)
 }
@@ -137,6 +153,35 @@ fn mode_of(matches: &ArgMatches<'_>) -> BERMode {
     }
 }
 
+// The rules of a check, which are those that the input is read by if none are named.
+fn checked_mode(matches: &ArgMatches<'_>) -> BERMode {
+    match matches.get_str("check") {
+        Some("ber") => BERMode::Ber,
+        Some("der") => BERMode::Der,
+        Some("cer") => BERMode::Cer,
+        _ => mode_of(matches),
+    }
+}
+
+fn selection_of(matches: &ArgMatches<'_>) -> Selection {
+    if matches.contains_id("check") {
+        Selection::Defects(checked_mode(matches))
+    } else {
+        Selection::Elements
+    }
+}
+
+fn view_of(matches: &ArgMatches<'_>) -> View {
+    let width = match matches.get_one::<u32>("width") {
+        Some(width) => width as usize,
+        None => WIDTH,
+    };
+    View {
+        selection: selection_of(matches),
+        width,
+    }
+}
+
 fn format_of(matches: &ArgMatches<'_>) -> Option<InputFormat> {
     if matches.get_flag("hex") {
         Some(InputFormat::Hex)
@@ -154,14 +199,10 @@ fn matches_of<'a>(alloc: Global, words: &'a [String]) -> Result<ArgMatches<'a>, 
 }
 
 fn found<'a>(matches: &ArgMatches<'a>) -> Options<'a> {
-    let width = match matches.get_one::<u32>("width") {
-        Some(width) => width as usize,
-        None => WIDTH,
-    };
     Options {
         mode: mode_of(matches),
         input_format: format_of(matches),
-        width,
+        view: view_of(matches),
         input: Input::named(matches.get_str("FILE")),
     }
 }

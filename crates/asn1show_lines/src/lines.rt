@@ -13,15 +13,15 @@ ghost use Rattle.asn1show_walk.specs.WellFormed.{AreElements};
 use crate::digits::{decode_hex, text_of};
 use crate::input_format::{InputFormat, format_of};
 use crate::pem::{Block, PemReader, cut_line};
-use asn1show_printer::{LineBuffer, Names, Printer, Style, write_quoted};
+use asn1show_printer::{LineBuffer, Names, Output, Printer, Style, View, write_quoted};
 use asn1show_walk::{Expected, WalkError, list_input};
 use std::alloc::Global;
 use std::io::Write;
 use yasna_base::mode::BERMode;
 
 // Lists the elements of bytes, and prints their encoding rules.
-fn show_bytes<W: Write>(
-    out: &mut W,
+fn show_bytes<W: Write + Drop>(
+    out: &mut Output<W>,
     mode: BERMode,
     style: Style<'_>,
     bytes: &[u8],
@@ -31,14 +31,14 @@ fn show_bytes<W: Write>(
     ensures elements { OnOk result (AreElements max_depth mode bytes.now) }
     ensures fails { IfErr result (λ f. WalkFails IsExternal (NoElements max_depth mode bytes.now) f) }
 {
-    let mut printer = Printer::new(out, style);
+    let mut printer = Printer::begin(out, style)?;
     list_input(bytes, mode, &mut printer)?;
     printer.finish()
 }
 
 // Ends a line with the count of bytes, and lists their elements.
-fn show_counted<W: Write>(
-    out: &mut W,
+fn show_counted<W: Write + Drop>(
+    out: &mut Output<W>,
     mode: BERMode,
     style: Style<'_>,
     mut line: LineBuffer,
@@ -51,7 +51,7 @@ fn show_counted<W: Write>(
 {
     let count = bytes.len();
     write!(line, "{count} bytes");
-    line.end(out)?;
+    out.begin(line);
     show_bytes(out, mode, style, bytes)
 }
 
@@ -70,8 +70,8 @@ fn block_line(alloc: Global, label: &[u8]) -> LineBuffer {
 }
 
 // Lists the elements of a block.
-fn show_block<W: Write>(
-    out: &mut W,
+fn show_block<W: Write + Drop>(
+    out: &mut Output<W>,
     mode: BERMode,
     style: Style<'_>,
     block: &Block<'_>,
@@ -86,7 +86,7 @@ fn show_block<W: Write>(
             show_counted(out, mode, style, line, bytes.as_slice())
         }
         Err(error) => {
-            line.end(out)?;
+            out.begin(line);
             Err(*error)
         }
     }
@@ -104,17 +104,21 @@ fn defect(error: &WalkError) -> &'static str {
 }
 
 // Prints why a block isn't listed, or not to its end.
-fn show_defect<W: Write>(out: &mut W, alloc: Global, error: &WalkError) -> Result<(), WalkError>
+fn show_defect<W: Write + Drop>(
+    out: &mut Output<W>,
+    alloc: Global,
+    error: &WalkError,
+) -> Result<(), WalkError>
     ensures { IfErr result IsExternal }
 {
     let mut line = line_of(alloc, defect(error));
     write!(line, "{error}");
-    line.end(out)
+    out.write(&mut line)
 }
 
 // Lists the elements of a block, and prints after them why it is malformed, if it is.
-fn show_whole_block<W: Write>(
-    out: &mut W,
+fn show_whole_block<W: Write + Drop>(
+    out: &mut Output<W>,
     mode: BERMode,
     style: Style<'_>,
     block: &Block<'_>,
@@ -132,8 +136,8 @@ fn show_whole_block<W: Write>(
 }
 
 // Takes a line of PEM, and lists the elements of the block that ends with it, if one does.
-fn show_line<'a, W: Write>(
-    out: &mut W,
+fn show_line<'a, W: Write + Drop>(
+    out: &mut Output<W>,
     mode: BERMode,
     style: Style<'_>,
     reader: &mut PemReader<'a>,
@@ -149,8 +153,8 @@ fn show_line<'a, W: Write>(
 }
 
 // Reports the block that is open at the end of an input of this size, if one is.
-fn show_end<W: Write>(
-    out: &mut W,
+fn show_end<W: Write + Drop>(
+    out: &mut Output<W>,
     mode: BERMode,
     style: Style<'_>,
     reader: &mut PemReader<'_>,
@@ -180,8 +184,8 @@ fn first_error(
 }
 
 // Lists each block of PEM. If one is malformed, it is reported, and the next ones are listed. The first error is returned.
-fn show_blocks<W: Write>(
-    out: &mut W,
+fn show_blocks<W: Write + Drop>(
+    out: &mut Output<W>,
     mode: BERMode,
     style: Style<'_>,
     input: &[u8],
@@ -205,8 +209,8 @@ fn show_blocks<W: Write>(
     }
 }
 
-fn show_hex<W: Write>(
-    out: &mut W,
+fn show_hex<W: Write + Drop>(
+    out: &mut Output<W>,
     mode: BERMode,
     style: Style<'_>,
     input: &[u8],
@@ -221,8 +225,8 @@ fn show_hex<W: Write>(
 }
 
 // Lists the elements of an input of this format.
-fn show_format<W: Write>(
-    out: &mut W,
+fn show_format<W: Write + Drop>(
+    out: &mut Output<W>,
     mode: BERMode,
     input_format: InputFormat,
     style: Style<'_>,
@@ -245,16 +249,16 @@ fn show_format<W: Write>(
     }
 }
 
-/// Lists the elements of an input in a mode, with at most `width` hexadecimal digits of a value. If no format is given, it is detected.
+/// Lists the elements of an input in a mode, as a view of them says. If no format is given, it is detected.
 ///
 /// Returns Ok only if the input in this format is one or more elements that are well formed, in PEM each of one or more blocks. If an error
 /// is neither an I/O error nor out of memory, the input isn't such.
-pub fn show<W: Write>(
+pub fn show<W: Write + Drop>(
     alloc: Global,
-    out: &mut W,
+    out: &mut Output<W>,
     mode: BERMode,
     input_format: Option<InputFormat>,
-    width: usize,
+    view: View,
     input: &[u8],
 ) -> Result<(), WalkError>
     ensures raw { OnOk result (IsTakenAs input_format input.now Bytes → IsJoining (IsRaw mode max_depth) input.now) }
@@ -265,7 +269,7 @@ pub fn show<W: Write>(
     let style = Style {
         alloc,
         names: &names,
-        width,
+        view,
     };
     match input_format {
         Some(input_format) => show_format(out, mode, input_format, style, input),

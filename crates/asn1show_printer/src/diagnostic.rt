@@ -1,5 +1,7 @@
 //! Diagnostics of elements, and the conformance of the whole to encoding rules.
-ghost use Rattle.std.specs.Prelude.{◌≡◌, if◌then◌else◌, Some, None};
+ghost use Rattle.std.specs.Prelude.{◌≡◌, if◌then◌else◌, true, Some, None};
+ghost use Rattle.yasna_base.specs.declared.mode.BERMode.{BERMode};
+ghost use Rattle.asn1show_printer.specs.Conformance.{conforms, excludes, AreMet, IsNoted};
 
 use yasna_base::mode::BERMode;
 
@@ -50,6 +52,10 @@ pub enum Diagnostic {
     Characters,
     /// A text isn't a time.
     NoTime,
+    /// A constructed element has a definite length, which CER doesn't accept (X.690, 9.1).
+    Definite,
+    /// A string isn't cut into segments as CER cuts it (X.690, 9.2).
+    Uncut,
 }
 
 impl Diagnostic {
@@ -78,16 +84,21 @@ impl Diagnostic {
             Diagnostic::CutComponent => "not BER: the last component is cut off",
             Diagnostic::Characters => "not BER: a character that the type hasn't",
             Diagnostic::NoTime => "not BER: no time",
+            Diagnostic::Definite => "not CER: definite length",
+            Diagnostic::Uncut => "not CER: not cut into segments of 1000 octets",
         }
     }
 
-    // Whether an element with this diagnostic isn't in a mode.
-    fn excludes(self, mode: BERMode) -> bool {
+    /// Whether an element with this diagnostic isn't in a mode.
+    pub fn excludes(self, mode: BERMode) -> bool
+        ensures { result ≡ excludes self mode }
+    {
         match self {
             // CER orders an untagged CHOICE by the least of its tags (X.690, 9.3), which no element shows.
             Diagnostic::Indefinite | Diagnostic::Segments | Diagnostic::TagOrder => {
                 mode == BERMode::Der
             }
+            Diagnostic::Definite | Diagnostic::Uncut => mode == BERMode::Cer,
             Diagnostic::LongLength
             | Diagnostic::Truth
             | Diagnostic::Padding
@@ -115,8 +126,10 @@ pub struct Conformance {
 }
 
 impl Conformance {
-    /// The conformance of no elements.
-    pub fn new() -> Conformance {
+    /// The conformance of no elements: they conform to each mode.
+    pub fn new() -> Conformance
+        ensures { (m : BERMode) → conforms result m ≡ true }
+    {
         Conformance {
             ber: true,
             der: true,
@@ -125,15 +138,32 @@ impl Conformance {
     }
 
     /// Drops the encoding rules that a diagnostic excludes.
-    pub fn note(&mut self, diagnostic: Diagnostic) {
+    pub fn note(&mut self, diagnostic: Diagnostic)
+        ensures { IsNoted self.old diagnostic self.new }
+    {
         self.ber = self.ber && !diagnostic.excludes(BERMode::Ber);
         self.der = self.der && !diagnostic.excludes(BERMode::Der);
         self.cer = self.cer && !diagnostic.excludes(BERMode::Cer);
     }
 
-    /// Drops CER.
-    pub fn exclude_cer(&mut self) {
-        self.cer = false;
+    /// Drops the encoding rules that further elements don't conform to.
+    pub fn meet(&mut self, further: Conformance)
+        ensures { AreMet self.old further self.new }
+    {
+        self.ber = self.ber && further.ber;
+        self.der = self.der && further.der;
+        self.cer = self.cer && further.cer;
+    }
+
+    /// Whether the elements conform to a mode.
+    pub fn includes(self, mode: BERMode) -> bool
+        ensures { result ≡ conforms self mode }
+    {
+        match mode {
+            BERMode::Ber => self.ber,
+            BERMode::Der => self.der,
+            BERMode::Cer => self.cer,
+        }
     }
 
     /// The names of the encoding rules.

@@ -8,7 +8,9 @@
 //! | `value` | the values of primitive elements |
 //! | `sets` | the order of a SET, and how CER cuts strings |
 //! | `diagnostic` | diagnostics of elements, and the conformance of the whole |
+//! | `selection` | what is shown of elements |
 //! | `line` | a line as it is made |
+//! | `output` | where lines are written |
 //! | `names` | names of types and of object identifiers |
 //! | `printer` | the lines |
 //!
@@ -19,11 +21,16 @@ mod asn_type;
 mod diagnostic;
 mod line;
 mod names;
+mod output;
 mod printer;
+mod selection;
 mod sets;
 mod value;
 
+pub use diagnostic::Conformance;
 pub use line::LineBuffer;
 pub use names::Names;
+pub use output::Output;
 pub use printer::Printer;
-pub use value::{Style, write_quoted};
+pub use selection::Selection;
+pub use value::{Style, View, write_quoted};

@@ -59,6 +59,17 @@ impl LineBuffer {
         Ok(self.text.as_slice())
     }
 
+    /// Drops the line, and begins the next one. `Err` says that there was no memory for its text.
+    pub fn discard(&mut self) -> Result<(), WalkError>
+        ensures { IfErr result IsExternal }
+    {
+        if self.out_of_memory {
+            return Err(WalkError::Memory);
+        }
+        self.text.clear();
+        Ok(())
+    }
+
     /// Writes the line, and begins the next one. `Err` says that there was no memory for its text, or that the write failed.
     pub fn end<W: Write>(&mut self, writer: &mut W) -> Result<(), WalkError>
         ensures { IfErr result IsExternal }

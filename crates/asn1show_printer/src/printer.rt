@@ -1,11 +1,14 @@
 //! The lines.
-ghost use Rattle.std.specs.Prelude.{IfErr};
+ghost use Rattle.std.specs.Prelude.{◌≡◌, IfErr};
+ghost use Rattle.asn1show_printer.specs.Conformance.{AreMet, IsDiagnosed};
 ghost use Rattle.asn1show_walk.specs.Errors.{IsExternal};
 
 use crate::asn_type::{AsnType, type_of};
 use crate::diagnostic::{Conformance, Diagnostic, unless};
 use crate::line::LineBuffer;
 use crate::names::type_name;
+use crate::output::Output;
+use crate::selection::Selection;
 use crate::sets::{are_cer_segments, order_of, stays_whole};
 use crate::value::{Style, write_value};
 use asn1show_walk::{Context, Item, Place, Visitor, WalkError, is_one_element};
@@ -14,29 +17,40 @@ use std::io::Write;
 use yasna_base::tag::{PCBit, Tag, TagClass};
 use yasna_base::tags::{TAG_BITSTRING, TAG_OCTETSTRING};
 
-/// Prints a line for each element.
+/// Prints the lines of elements.
 #[derive(Drop)]
-pub struct Printer<'w, 'n, W: Write> {
-    writer: &'w mut W,
+pub struct Printer<'w, 'n, W: Write + Drop> {
+    output: &'w mut Output<W>,
     report: Report<'n>,
 }
 
-impl<'w, 'n, W: Write> Printer<'w, 'n, W> {
-    /// Prints to `writer`.
-    pub fn new(writer: &'w mut W, style: Style<'n>) -> Printer<'w, 'n, W> {
-        Printer {
-            writer,
-            report: Report::new(style),
+impl<'w, 'n, W: Write + Drop> Printer<'w, 'n, W> {
+    /// Prints to an output, of which the heading is there. In a check it is written before the first line alone.
+    ///
+    /// `Err` says that memory ran out, or that a write failed.
+    pub fn begin(
+        output: &'w mut Output<W>,
+        style: Style<'n>,
+    ) -> Result<Printer<'w, 'n, W>, WalkError>
+        ensures { IfErr result IsExternal }
+    {
+        if matches!(style.view.selection, Selection::Elements) {
+            output.write_heading()?;
         }
+        Ok(Printer {
+            output,
+            report: Report::new(style),
+        })
     }
 
-    /// Prints the encoding rules that the elements conform to. `Err` says that memory ran out, or that a write failed.
+    /// Notes the encoding rules that the elements conform to, and prints them, but in a check.
+    ///
+    /// `Err` says that memory ran out, or that a write failed.
     pub fn finish(self) -> Result<(), WalkError>
         ensures { IfErr result IsExternal }
     {
-        let Printer { writer, mut report } = self;
-        report.print_conformance();
-        report.line.end(writer)
+        let Printer { output, mut report } = self;
+        report.end(output)
     }
 }
 
@@ -45,7 +59,10 @@ impl<'w, 'n, W: Write> Printer<'w, 'n, W> {
 struct Report<'n> {
     line: LineBuffer,
     style: Style<'n>,
+    // The conformance of the elements before.
     conformance: Conformance,
+    // The conformance of the element on the line.
+    element: Conformance,
     // For each element around the next one the tag of its segments, if it is a string.
     around: Vec<Option<Tag>>,
     // Whether the last line is of a segment.
@@ -61,6 +78,7 @@ impl<'n> Report<'n> {
             line: LineBuffer::new(style.alloc),
             style,
             conformance: Conformance::new(),
+            element: Conformance::new(),
             around: Vec::new(style.alloc),
             is_segment: false,
             has_unused_bits: false,
@@ -76,10 +94,11 @@ impl<'n> Report<'n> {
     // Prints an element with its diagnostics.
     fn print_element(&mut self, item: &Item<'_>) {
         let kind = type_of(item.tag);
-        self.note_cer(item, kind);
+        self.element = Conformance::new();
         self.print_head(item);
         self.print_contents(item, kind);
         self.diagnose_header(item);
+        self.diagnose(item, cer_diagnostic(item, kind));
         if self.around.push(segments_of(item.bit, kind)).is_err() {
             self.line.fail_out_of_memory();
         }
@@ -116,16 +135,49 @@ impl<'n> Report<'n> {
         self.print_tag(item.tag)
     }
 
-    // Prints a diagnostic. Elements in a string don't count for the conformance of the whole.
-    fn diagnose(&mut self, item: &Item<'_>, diagnostic: Option<Diagnostic>) {
+    // Notes a diagnostic, and prints it where it is shown. Elements in a string don't count for the conformance of the whole.
+    fn diagnose(&mut self, item: &Item<'_>, diagnostic: Option<Diagnostic>)
+        ensures { IsDiagnosed item.now.in_string self.old.element diagnostic self.new.element }
+    {
         let Some(diagnostic) = diagnostic else {
             return;
         };
         if !item.in_string {
-            self.conformance.note(diagnostic);
+            self.element.note(diagnostic);
         }
-        self.line.write_str(" -- ");
-        self.line.write_str(diagnostic.text())
+        if self.style.view.selection.shows(item.in_string, diagnostic) {
+            self.line.write_str(" -- ");
+            self.line.write_str(diagnostic.text())
+        }
+    }
+
+    // Ends the line of an element: writes it, if it is to be written, and counts the element for the conformance of the whole.
+    fn end_element<W: Write + Drop>(&mut self, output: &mut Output<W>) -> Result<(), WalkError>
+        ensures external { IfErr result IsExternal }
+        ensures met { AreMet self.old.conformance self.old.element self.new.conformance }
+        ensures before { output.new.conformance ≡ output.old.conformance }
+    {
+        self.conformance.meet(self.element);
+        if self.style.view.selection.keeps(self.element) {
+            output.write(&mut self.line)
+        } else {
+            self.line.discard()
+        }
+    }
+
+    // Counts the elements for the conformance of all, and prints the encoding rules that they conform to, but in a check.
+    fn end<W: Write + Drop>(&mut self, output: &mut Output<W>) -> Result<(), WalkError>
+        ensures external { IfErr result IsExternal }
+        ensures met { AreMet output.old.conformance self.old.conformance output.new.conformance }
+    {
+        output.meet(self.conformance);
+        match self.style.view.selection {
+            Selection::Elements => {
+                self.print_conformance();
+                output.write(&mut self.line)
+            }
+            Selection::Defects(_) => Ok(()),
+        }
     }
 
     // The tag expected of an element as a segment, if it is one.
@@ -187,12 +239,6 @@ impl<'n> Report<'n> {
         self.diagnose(item, unless(is_expected, Diagnostic::Segment));
         self.diagnose(item, unless(may_follow, Diagnostic::AfterUnusedBits))
     }
-
-    fn note_cer(&mut self, item: &Item<'_>, kind: AsnType) {
-        if !item.in_string && !is_in_cer(item, kind) {
-            self.conformance.exclude_cer();
-        }
-    }
 }
 
 // The prefix of a tag number of this class.
@@ -213,15 +259,19 @@ fn name_of(tag: Tag) -> Option<&'static str> {
     }
 }
 
-// Whether CER accepts an element of this type as it is encoded: constructed ones have indefinite length, and long strings are cut
+// Why CER doesn't accept an element of this type as it is encoded: constructed ones have indefinite length, and long strings are cut
 // (X.690, 9.1 and 9.2).
-fn is_in_cer(item: &Item<'_>, kind: AsnType) -> bool {
+fn cer_diagnostic(item: &Item<'_>, kind: AsnType) -> Option<Diagnostic> {
     match item.bit {
-        PCBit::Primitive => !kind.is_string() || stays_whole(item.contents),
-        PCBit::Constructed if kind.is_string() => {
-            item.size.is_none() && are_cer_segments(item.contents)
-        }
-        PCBit::Constructed => item.size.is_none(),
+        PCBit::Primitive => unless(
+            !kind.is_string() || stays_whole(item.contents),
+            Diagnostic::Uncut,
+        ),
+        PCBit::Constructed if item.size.is_some() => Some(Diagnostic::Definite),
+        PCBit::Constructed => unless(
+            !kind.is_string() || are_cer_segments(item.contents),
+            Diagnostic::Uncut,
+        ),
     }
 }
 
@@ -268,7 +318,7 @@ fn is_long(item: &Item<'_>) -> bool {
     item.header > identifier_length(item.tag.tag_number).saturating_add(shortest_length(size))
 }
 
-impl<'w, 'n, W: Write> Visitor for Printer<'w, 'n, W> {
+impl<'w, 'n, W: Write + Drop> Visitor for Printer<'w, 'n, W> {
     ghost use Rattle.std.specs.Prelude.{None};
     ghost use Rattle.asn1show_walk.specs.Errors.{IsExternal};
 
@@ -278,7 +328,7 @@ impl<'w, 'n, W: Write> Visitor for Printer<'w, 'n, W> {
 
     fn visit(&mut self, item: &Item<'_>) -> Result<(), WalkError> {
         self.report.print_element(item);
-        self.report.line.end(self.writer)
+        self.report.end_element(self.output)
     }
 
     // Descends if the contents are one whole element, and the string isn't a segment.

@@ -14,6 +14,7 @@ use crate::asn_type::{AsnType, Characters};
 use crate::diagnostic::{Diagnostic, unless};
 use crate::line::LineBuffer;
 use crate::names::Names;
+use crate::selection::Selection;
 use arcs::{are_components, components_diagnostic, write_oid, write_relative};
 use number::write_integer;
 use octets::{are_bits, is_padding_clear, write_bits, write_octets};
@@ -24,15 +25,24 @@ use text::{are_pairs, are_quads, write_utf8, write_wide};
 use time::{write_generalized_time, write_utc_time};
 use yasna_base::text::{is_ia5, is_numeric, is_printable, is_visible};
 
-/// How values are written.
+/// What is shown of elements, and how.
+#[derive(Clone, Copy)]
+pub struct View {
+    /// What is shown.
+    pub selection: Selection,
+    /// The most hexadecimal digits that are written of a value.
+    pub width: usize,
+}
+
+/// How elements are shown.
 #[derive(Clone, Copy)]
 pub struct Style<'n> {
     /// The allocator.
     pub alloc: Global,
     /// The names of object identifiers.
     pub names: &'n Names,
-    /// The most hexadecimal digits that are written of a value.
-    pub width: usize,
+    /// What is shown, and how.
+    pub view: View,
 }
 
 // Writes a BOOLEAN, and reports what is wrong with it.
@@ -99,7 +109,7 @@ fn write_text(line: &mut LineBuffer, characters: Characters, octets: &[u8]) -> O
 fn write_bit_string(line: &mut LineBuffer, style: Style<'_>, contents: &[u8]) -> Option<Diagnostic>
     ensures { DiagnosesOf Bits contents.now result }
 {
-    write_bits(line, style.alloc, contents, style.width);
+    write_bits(line, style.alloc, contents, style.view.width);
     if are_bits(contents) {
         return unless(is_padding_clear(contents), Diagnostic::Padding);
     }
@@ -111,7 +121,7 @@ const LONGEST_DECIMAL: usize = 2048;
 
 fn write_integer_or_octets(line: &mut LineBuffer, style: Style<'_>, contents: &[u8]) {
     if contents.len() > LONGEST_DECIMAL {
-        return write_octets(line, style.alloc, contents, style.width);
+        return write_octets(line, style.alloc, contents, style.view.width);
     }
     write_integer(line, style.alloc, contents)
 }
@@ -138,11 +148,8 @@ pub fn write_value(
 ) -> Option<Diagnostic>
     ensures { line_is_out_of_memory line.new ≡ false → DiagnosesOf kind contents.now result }
 {
-    let Style {
-        alloc,
-        names,
-        width,
-    } = style;
+    let Style { alloc, names, view } = style;
+    let width = view.width;
     match kind {
         AsnType::Boolean => write_boolean(line, contents),
         AsnType::Integer => {

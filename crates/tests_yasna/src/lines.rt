@@ -2,7 +2,7 @@
 
 use crate::checks::{finds_none, holds, spelled};
 use asn1show_lines::InputFormat::Hex;
-use asn1show_lines::{InputFormat, show};
+use asn1show_lines::{InputFormat, Output, Selection, View, show};
 use asn1show_walk::{Context, Place, WalkError, is_one_element};
 use std::alloc::Global;
 use yasna::BERMode::{Ber, Cer, Der};
@@ -54,16 +54,20 @@ impl Expectation {
 /// An input, its format where it isn't detected, the rules, and what is wanted of it.
 pub(crate) type Row = (&'static str, Option<InputFormat>, BERMode, Expectation);
 
-fn is_shown(
+/// Each element, with 16 hexadecimal digits of a value.
+pub(crate) const ALL: View = View {
+    selection: Selection::Elements,
+    width: 16,
+};
+
+// Whether this was written with this outcome.
+fn is_met(
     alloc: Global,
-    input: &str,
-    input_format: Option<InputFormat>,
-    mode: BERMode,
+    written: &[u8],
+    outcome: Result<(), WalkError>,
     expected: Expectation,
 ) -> ASN1Result<bool> {
-    let mut output = Vec::new(alloc);
-    let outcome = show(alloc, &mut output, mode, input_format, 16, input.as_bytes());
-    let text = std::str::from_utf8(output.as_slice()).unwrap_or("");
+    let text = std::str::from_utf8(written).unwrap_or("");
     match outcome {
         Ok(()) => Ok(expected.is_met(text, "", false)),
         Err(error) => {
@@ -71,6 +75,47 @@ fn is_shown(
             Ok(expected.is_met(text, &error.to_string(alloc)?, is_malformed))
         }
     }
+}
+
+/// Whether an input is shown so in a view. If it is listed to its end, its elements are as asked or not.
+pub(crate) fn is_viewed(
+    alloc: Global,
+    row: &Row,
+    view: View,
+    is_accepted: bool,
+) -> ASN1Result<bool> {
+    let (input, input_format, mode, expected) = *row;
+    let mut output = Output::new(Vec::new(alloc));
+    let outcome = show(
+        alloc,
+        &mut output,
+        mode,
+        input_format,
+        view,
+        input.as_bytes(),
+    );
+    let accepted = view.selection.accepts(output.conformance());
+    let is_as_asked = outcome.is_err() || accepted == is_accepted;
+    Ok(is_as_asked && is_met(alloc, output.writer().as_slice(), outcome, expected)?)
+}
+
+fn is_shown(
+    alloc: Global,
+    input: &str,
+    input_format: Option<InputFormat>,
+    mode: BERMode,
+    expected: Expectation,
+) -> ASN1Result<bool> {
+    let mut output = Output::new(Vec::new(alloc));
+    let outcome = show(
+        alloc,
+        &mut output,
+        mode,
+        input_format,
+        ALL,
+        input.as_bytes(),
+    );
+    is_met(alloc, output.writer().as_slice(), outcome, expected)
 }
 
 /// The first input that is shown otherwise.

@@ -2,9 +2,13 @@
 
 use crate::checks::finds_none;
 use crate::lines::Expectation::{Constructed, Line, Listed, Malformed};
-use crate::lines::{Row, first_other};
+use crate::lines::{ALL, Row, first_other, is_viewed};
 use asn1show_lines::InputFormat::Hex;
-use yasna::BERMode::Ber;
+use asn1show_lines::Selection::Defects;
+use asn1show_lines::View;
+use std::alloc::Global;
+use yasna::BERMode;
+use yasna::BERMode::{Ber, Cer, Der};
 
 // Hexadecimal digits, and what is shown of them in BER.
 static SHOWN: [Row; 16] = [
@@ -390,4 +394,91 @@ malformed: offset 23: Eof: expected a line that ends the block of PEM
 #[test]
 fn blocks_are_listed_after_malformed_ones(rt: HostRuntime) {
     finds_none(&rt, first_other(rt.alloc(), &BLOCKS));
+}
+
+// The rules of a check, an input, what is printed of it, and whether it is in the rules.
+static CHECKED: [(BERMode, Row, bool); 8] = [
+    (Der, ("3003 0101FF", None, Ber, Listed("", "")), true),
+    (
+        Der,
+        (
+            "3006 010101 0101FF",
+            None,
+            Ber,
+            Listed(
+                "input: hexadecimal, 8 bytes
+      2  2+1          BOOLEAN TRUE -- not DER: TRUE isn't FF
+",
+                "",
+            ),
+        ),
+        false,
+    ),
+    (Ber, ("3006 010101 0101FF", None, Ber, Listed("", "")), true),
+    (
+        Ber,
+        (
+            "3003 0102 0000",
+            None,
+            Ber,
+            Listed(
+                "",
+                "offset 2: Eof: expected 2 octets of contents, of which 1 are there",
+            ),
+        ),
+        false,
+    ),
+    (Ber, ("3005 0500 010100", None, Ber, Listed("", "")), true),
+    (
+        Cer,
+        (
+            "3003 010101",
+            None,
+            Ber,
+            Listed(
+                "input: hexadecimal, 5 bytes
+      0  2+3        SEQUENCE -- not CER: definite length
+      2  2+1          BOOLEAN TRUE -- not DER: TRUE isn't FF
+",
+                "",
+            ),
+        ),
+        false,
+    ),
+    (Der, ("0403 010101", None, Ber, Listed("", "")), true),
+    (
+        Der,
+        (
+            "-----BEGIN X-----\nAgEF\n-----END X-----\n-----BEGIN Y-----\nAQEB\n-----END Y-----\n-----BEGIN Z-----\nAgIF\n-----END Z-----\n",
+            None,
+            Ber,
+            Listed(
+                "input: PEM \"Y\", 3 bytes
+      0  2+1        BOOLEAN TRUE -- not DER: TRUE isn't FF
+input: PEM \"Z\", 3 bytes
+malformed: offset 0: Eof: expected 2 octets of contents, of which 1 are there
+",
+                "offset 0: Eof: expected 2 octets of contents, of which 1 are there",
+            ),
+        ),
+        false,
+    ),
+];
+
+fn first_checked_otherwise(alloc: Global) -> Option<&'static str> {
+    for (mode, row, is_accepted) in &CHECKED {
+        let view = View {
+            selection: Defects(*mode),
+            ..ALL
+        };
+        if !matches!(is_viewed(alloc, row, view, *is_accepted), Ok(true)) {
+            return Some(row.0);
+        }
+    }
+    None
+}
+
+#[test]
+fn a_check_prints_only_what_its_mode_excludes(rt: HostRuntime) {
+    finds_none(&rt, first_checked_otherwise(rt.alloc()));
 }

@@ -1,0 +1,79 @@
+-- The encoding rules that diagnostics exclude, and which diagnostics are shown.
+use Rattle.std.specs.Prelude.{◌≡◌, Bool, true, false, ◌&&◌, not, Option, Some, None}
+use Rattle.yasna_base.specs.declared.mode.BERMode.{BERMode}
+use Rattle.yasna_base.specs.declared.mode.BERMode.TheVariants.{Ber, Der, Cer}
+use Rattle.asn1show_printer.specs.declared.diagnostic.Conformance.{Conformance}
+use Rattle.asn1show_printer.specs.declared.diagnostic.Diagnostic.{Diagnostic}
+use Rattle.asn1show_printer.specs.declared.diagnostic.Diagnostic.TheVariants.{LongLength, Indefinite, Segments, Truth, Padding, Order, TagOrder, Time, Local}
+use Rattle.asn1show_printer.specs.declared.diagnostic.Diagnostic.TheVariants.{Definite, Uncut}
+use Rattle.asn1show_printer.specs.declared.selection.Selection.{Selection}
+use Rattle.asn1show_printer.specs.declared.selection.Selection.TheVariants.{Elements, Defects}
+
+abbrev pub is_der : BERMode → Bool
+is_der Ber = false
+is_der Der = true
+is_der Cer = false
+
+abbrev pub is_cer : BERMode → Bool
+is_cer Ber = false
+is_cer Der = false
+is_cer Cer = true
+
+abbrev pub is_canonical : BERMode → Bool
+is_canonical Ber = false
+is_canonical Der = true
+is_canonical Cer = true
+
+-- whether an element with a diagnostic isn't in a mode: BER accepts what is only not canonical (X.690, 9 to 11)
+abbrev pub excludes : Diagnostic → BERMode → Bool
+excludes LongLength m = is_canonical m
+excludes Indefinite m = is_der m
+excludes Segments m = is_der m
+excludes Truth m = is_canonical m
+excludes Padding m = is_canonical m
+excludes Order m = is_canonical m
+excludes TagOrder m = is_der m
+excludes Time m = is_canonical m
+excludes Local m = is_canonical m
+excludes Definite m = is_cer m
+excludes Uncut m = is_cer m
+excludes other m = true
+
+-- whether elements conform to a mode
+abbrev pub conforms : Conformance → BERMode → Bool
+conforms c Ber = c.ber
+conforms c Der = c.der
+conforms c Cer = c.cer
+
+-- whether a diagnostic of an element is shown, which may be in a string: in a listing what excludes DER, and in a check what excludes the rules of the whole
+abbrev pub shows : Selection → Bool → Diagnostic → Bool
+shows Elements in_string d = excludes d Der
+shows (Defects m) in_string d = not in_string && excludes d m
+
+-- whether the line of an element is written: in a check only if the element isn't in its rules
+abbrev pub keeps : Selection → Conformance → Bool
+keeps Elements element = true
+keeps (Defects m) element = not (conforms element m)
+
+-- the conformance after further elements: to the modes that both conform to
+pub record AreMet (old further new : Conformance) : Type 0 where
+  pub ber : new.ber ≡ old.ber && further.ber
+  pub der : new.der ≡ old.der && further.der
+  pub cer : new.cer ≡ old.cer && further.cer
+
+-- the conformance after a diagnostic: to the modes that it doesn't exclude
+pub record IsNoted (old : Conformance) (d : Diagnostic) (new : Conformance) : Type 0 where
+  pub ber : new.ber ≡ old.ber && not (excludes d Ber)
+  pub der : new.der ≡ old.der && not (excludes d Der)
+  pub cer : new.cer ≡ old.cer && not (excludes d Cer)
+
+-- the conformance of an element after a diagnostic, if there is one; what is in a string doesn't count for the whole
+abbrev pub IsDiagnosed : Bool → Conformance → Option Diagnostic → Conformance → Type 0
+IsDiagnosed in_string old None new = new ≡ old
+IsDiagnosed true old (Some d) new = new ≡ old
+IsDiagnosed false old (Some d) new = IsNoted old d new
+
+-- whether elements are as asked: in a check, in its rules
+abbrev pub accepts : Selection → Conformance → Bool
+accepts Elements c = true
+accepts (Defects m) c = conforms c m
