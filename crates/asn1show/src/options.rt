@@ -1,6 +1,6 @@
 //! The options of the command line.
 
-use asn1show_lines::{InputFormat, Selection, View};
+use asn1show_lines::{InputFormat, Numbers, Selection, View};
 use clap::{Arg, ArgAction, ArgMatches, Command, Error};
 use program_io::{Input, VERSION};
 use std::alloc::{AllocError, Global};
@@ -90,6 +90,13 @@ fn width_arg<'a>(alloc: Global) -> Arg<'a> {
     .value_parser(clap::value_parser!(u32))
 }
 
+fn decimal_arg<'a>(alloc: Global) -> Arg<'a> {
+    Arg::new(alloc, "decimal")
+        .long("decimal")
+        .action(ArgAction::SetTrue)
+        .help("Show integers of more than 8 octets in decimal")
+}
+
 fn check_arg<'a>(alloc: Global) -> Arg<'a> {
     value_arg(
         alloc,
@@ -118,6 +125,7 @@ fn push_flag(alloc: Global, args: &mut Vec<Arg<'_>>, flag: &Flag) -> Result<(), 
 
 fn push_values(alloc: Global, args: &mut Vec<Arg<'_>>) -> Result<(), AllocError> {
     args.push(check_arg(alloc))?;
+    args.push(decimal_arg(alloc))?;
     args.push(width_arg(alloc))?;
     Ok(args.push(file_arg(alloc))?)
 }
@@ -171,6 +179,14 @@ fn selection_of(matches: &ArgMatches<'_>) -> Selection {
     }
 }
 
+fn numbers_of(matches: &ArgMatches<'_>) -> Numbers {
+    if matches.get_flag("decimal") {
+        Numbers::Decimal
+    } else {
+        Numbers::Hexadecimal
+    }
+}
+
 fn view_of(matches: &ArgMatches<'_>) -> View {
     let width = match matches.get_one::<u32>("width") {
         Some(width) => width as usize,
@@ -178,6 +194,7 @@ fn view_of(matches: &ArgMatches<'_>) -> View {
     };
     View {
         selection: selection_of(matches),
+        numbers: numbers_of(matches),
         width,
     }
 }

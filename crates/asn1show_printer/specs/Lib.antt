@@ -1,3 +1,4 @@
 pub mod Types
 pub mod Contents
 pub mod Conformance
+pub mod Shown

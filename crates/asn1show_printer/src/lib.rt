@@ -33,4 +33,4 @@ pub use names::Names;
 pub use output::Output;
 pub use printer::Printer;
 pub use selection::Selection;
-pub use value::{Style, View, write_quoted};
+pub use value::{Numbers, Style, View, write_quoted};

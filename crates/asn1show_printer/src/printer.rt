@@ -10,7 +10,7 @@ use crate::names::type_name;
 use crate::output::Output;
 use crate::selection::Selection;
 use crate::sets::{are_cer_segments, order_of, stays_whole};
-use crate::value::{Style, write_value};
+use crate::value::{Style, is_shown_as_text, write_quoted, write_value};
 use asn1show_walk::{Context, Item, Place, Visitor, WalkError, is_one_element};
 use std::alloc::AllocError;
 use std::io::Write;
@@ -210,6 +210,9 @@ impl<'n> Report<'n> {
     fn print_primitive(&mut self, item: &Item<'_>, kind: AsnType) {
         if !matches!(kind, AsnType::Null) {
             self.line.write_str(" ");
+        }
+        if is_shown_as_text(item.tag.tag_class, item.contents) {
+            return write_quoted(&mut self.line, item.contents);
         }
         let diagnostic = write_value(&mut self.line, self.style, kind, item.contents);
         self.diagnose(item, diagnostic)

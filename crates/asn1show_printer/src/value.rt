@@ -2,6 +2,7 @@
 ghost use Rattle.std.specs.Prelude.{◌≡◌, ◌↔◌, ◌∷◌, [], false, IsTrue};
 ghost use Rattle.yasna_base.specs.Integer.{IsMinimal};
 ghost use Rattle.asn1show_printer.specs.Contents.{AreCharacters, DiagnosesOf, line_is_out_of_memory};
+ghost use Rattle.asn1show_printer.specs.Shown.{longest_decimal, IsShownAsText, IsShownInDecimal};
 ghost use Rattle.asn1show_printer.specs.declared.asn_type.AsnType.TheVariants.{Bits, Boolean, GeneralizedTime, Text};
 
 mod arcs;
@@ -23,13 +24,37 @@ use std::str;
 pub use text::write_quoted;
 use text::{are_pairs, are_quads, write_utf8, write_wide};
 use time::{write_generalized_time, write_utc_time};
+use yasna_base::tag::TagClass;
 use yasna_base::text::{is_ia5, is_numeric, is_printable, is_visible};
+
+/// How an INTEGER or ENUMERATED of more than 8 octets is written.
+#[derive(Clone, Copy)]
+pub enum Numbers {
+    /// In hexadecimal, as its octets.
+    Hexadecimal,
+    /// In decimal, up to 2048 octets.
+    Decimal,
+}
+
+impl Numbers {
+    // The most octets of a number that is written in decimal. To write a longer one than 2048 octets in decimal would take long.
+    fn longest_decimal(self) -> usize
+        ensures { result ≡ longest_decimal self }
+    {
+        match self {
+            Numbers::Hexadecimal => 8,
+            Numbers::Decimal => 2048,
+        }
+    }
+}
 
 /// What is shown of elements, and how.
 #[derive(Clone, Copy)]
 pub struct View {
     /// What is shown.
     pub selection: Selection,
+    /// How long numbers are written.
+    pub numbers: Numbers,
     /// The most hexadecimal digits that are written of a value.
     pub width: usize,
 }
@@ -116,14 +141,28 @@ fn write_bit_string(line: &mut LineBuffer, style: Style<'_>, contents: &[u8]) ->
     Some(Diagnostic::Bits)
 }
 
-// A number of more octets is written in hexadecimal: to write it in decimal would take long.
-const LONGEST_DECIMAL: usize = 2048;
+// Whether a number with these contents is written in decimal.
+fn is_decimal(numbers: Numbers, contents: &[u8]) -> bool
+    ensures { IsTrue result ↔ IsShownInDecimal numbers contents.now }
+{
+    contents.len() <= numbers.longest_decimal()
+}
 
-fn write_integer_or_octets(line: &mut LineBuffer, style: Style<'_>, contents: &[u8]) {
-    if contents.len() > LONGEST_DECIMAL {
-        return write_octets(line, style.alloc, contents, style.view.width);
+fn write_number(line: &mut LineBuffer, style: Style<'_>, contents: &[u8]) {
+    if is_decimal(style.view.numbers, contents) {
+        write_integer(line, style.alloc, contents)
+    } else {
+        write_octets(line, style.alloc, contents, style.view.width)
     }
-    write_integer(line, style.alloc, contents)
+}
+
+/// Whether the contents of a primitive element with a tag of this class are shown as text, although its type isn't known.
+///
+/// They are if the class is context-specific, and they are one or more characters of VisibleString.
+pub fn is_shown_as_text(class: TagClass, contents: &[u8]) -> bool
+    ensures { IsTrue result ↔ IsShownAsText class contents.now }
+{
+    class == TagClass::ContextSpecific && !contents.is_empty() && is_visible(contents)
 }
 
 // Writes a time, if there was memory to read it.
@@ -153,7 +192,7 @@ pub fn write_value(
     match kind {
         AsnType::Boolean => write_boolean(line, contents),
         AsnType::Integer => {
-            write_integer_or_octets(line, style, contents);
+            write_number(line, style, contents);
             unless(are_number(contents), Diagnostic::Number)
         }
         AsnType::Bits => write_bit_string(line, style, contents),

@@ -2,7 +2,7 @@
 
 use crate::checks::{finds_none, holds, spelled};
 use asn1show_lines::InputFormat::Hex;
-use asn1show_lines::{InputFormat, Output, Selection, View, show};
+use asn1show_lines::{InputFormat, Numbers, Output, Selection, View, show};
 use asn1show_walk::{Context, Place, WalkError, is_one_element};
 use std::alloc::Global;
 use yasna::BERMode::{Ber, Cer, Der};
@@ -57,6 +57,7 @@ pub(crate) type Row = (&'static str, Option<InputFormat>, BERMode, Expectation);
 /// Each element, with 16 hexadecimal digits of a value.
 pub(crate) const ALL: View = View {
     selection: Selection::Elements,
+    numbers: Numbers::Hexadecimal,
     width: 16,
 };
 
@@ -194,13 +195,13 @@ static LINES: [Row; 24] = [
         "0209010000000000000000",
         None,
         Ber,
-        Line("2+9        INTEGER 18446744073709551616", "BER, DER, CER"),
+        Line("2+9        INTEGER '0100000000000000..'H", "BER, DER, CER"),
     ),
     (
-        "0209FF0000000000000000",
+        "02088000000000000000",
         None,
         Ber,
-        Line("2+9        INTEGER -18446744073709551616", "BER, DER, CER"),
+        Line("2+8        INTEGER -9223372036854775808", "BER, DER, CER"),
     ),
     (
         "0202007F",

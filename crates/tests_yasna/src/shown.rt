@@ -4,6 +4,7 @@ use crate::checks::finds_none;
 use crate::lines::Expectation::{Constructed, Line, Listed, Malformed};
 use crate::lines::{ALL, Row, first_other, is_viewed};
 use asn1show_lines::InputFormat::Hex;
+use asn1show_lines::Numbers::Decimal;
 use asn1show_lines::Selection::Defects;
 use asn1show_lines::View;
 use std::alloc::Global;
@@ -11,7 +12,31 @@ use yasna::BERMode;
 use yasna::BERMode::{Ber, Cer, Der};
 
 // Hexadecimal digits, and what is shown of them in BER.
-static SHOWN: [Row; 16] = [
+static SHOWN: [Row; 20] = [
+    (
+        "820B 6578616D706C652E636F6D",
+        Some(Hex),
+        Ber,
+        Line("2+11       [2] \"example.com\"", "BER, DER, CER"),
+    ),
+    (
+        "8203 22205C",
+        Some(Hex),
+        Ber,
+        Line("2+3        [2] \"\\\" \\\\\"", "BER, DER, CER"),
+    ),
+    (
+        "8203 417F42",
+        Some(Hex),
+        Ber,
+        Line("2+3        [2] '417F42'H", "BER, DER, CER"),
+    ),
+    (
+        "4203 414243",
+        Some(Hex),
+        Ber,
+        Line("2+3        [APPLICATION 2] '414243'H", "BER, DER, CER"),
+    ),
     (
         "180F32303235303130313030303036305A",
         Some(Hex),
@@ -481,4 +506,38 @@ fn first_checked_otherwise(alloc: Global) -> Option<&'static str> {
 #[test]
 fn a_check_prints_only_what_its_mode_excludes(rt: HostRuntime) {
     finds_none(&rt, first_checked_otherwise(rt.alloc()));
+}
+
+// Long numbers in decimal.
+static IN_DECIMAL: [Row; 2] = [
+    (
+        "0209010000000000000000",
+        None,
+        Ber,
+        Line("2+9        INTEGER 18446744073709551616", "BER, DER, CER"),
+    ),
+    (
+        "0209FF0000000000000000",
+        None,
+        Ber,
+        Line("2+9        INTEGER -18446744073709551616", "BER, DER, CER"),
+    ),
+];
+
+fn first_other_in_decimal(alloc: Global) -> Option<&'static str> {
+    let view = View {
+        numbers: Decimal,
+        ..ALL
+    };
+    for row in &IN_DECIMAL {
+        if !matches!(is_viewed(alloc, row, view, true), Ok(true)) {
+            return Some(row.0);
+        }
+    }
+    None
+}
+
+#[test]
+fn long_numbers_are_in_decimal_if_asked_for(rt: HostRuntime) {
+    finds_none(&rt, first_other_in_decimal(rt.alloc()));
 }
