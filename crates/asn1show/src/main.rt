@@ -3,7 +3,7 @@
 //! `options` has those of the command line. `asn1show_lines` makes the lines, and `program_io` has the input and the standard streams.
 #![tactic(auto)]
 
-ghost use Rattle.std.specs.Prelude.{◌≡◌, ◌↔◌, if◌then◌else◌};
+ghost use Rattle.std.specs.Prelude.{◌≡◌, ◌↔◌, ◌&&◌, not, if◌then◌else◌};
 ghost use Rattle.asn1show_printer.specs.Conformance.{accepts};
 ghost use Rattle.asn1show_walk.specs.Errors.{IsExternal};
 
@@ -19,8 +19,15 @@ use std::process::ExitCode;
 // The status if the input is malformed, or a check of it fails.
 const MALFORMED: u8 = 1;
 
-// Lists an input, and returns the conformance of its elements.
-fn show(rt: &HostRuntime, options: &Options<'_>, input: &[u8]) -> Result<Conformance, WalkError> {
+// What was listed: the conformance of the elements, and whether the one that is asked for wasn't found.
+#[derive(Clone, Copy)]
+struct Listed {
+    conformance: Conformance,
+    is_missing: bool,
+}
+
+// Lists an input.
+fn show(rt: &HostRuntime, options: &Options<'_>, input: &[u8]) -> Result<Listed, WalkError> {
     let Options {
         mode,
         input_format,
@@ -32,14 +39,17 @@ fn show(rt: &HostRuntime, options: &Options<'_>, input: &[u8]) -> Result<Conform
     let flushed = out.flush();
     shown?;
     flushed?;
-    Ok(out.conformance())
+    Ok(Listed {
+        conformance: out.conformance(),
+        is_missing: out.is_missing(),
+    })
 }
 
-// The status after elements were listed: 0, or in a check 1 where they aren't in its rules.
-fn listed_status(selection: Selection, conformance: Conformance) -> u8
-    ensures { result ≡ if accepts selection conformance then 0 else 1 }
+// The status after elements were listed: 0, but 1 if the one that is asked for wasn't found, or in a check if they aren't in its mode.
+fn listed_status(selection: Selection, listed: Listed) -> u8
+    ensures { result ≡ if accepts selection listed.conformance && not listed.is_missing then 0 else 1 }
 {
-    if selection.accepts(conformance) {
+    if selection.accepts(listed.conformance) && !listed.is_missing {
         0
     } else {
         MALFORMED
@@ -62,10 +72,20 @@ fn failed_status(rt: &HostRuntime, name: &str, error: WalkError) -> u8
     }
 }
 
+// Says whether the element that is asked for wasn't found, and returns the status.
+fn end(rt: &HostRuntime, options: &Options<'_>, listed: Listed) -> u8
+    ensures { result ≡ if accepts options.now.view.selection listed.conformance && not listed.is_missing then 0 else 1 }
+{
+    if listed.is_missing {
+        report(rt, options.input.name(), &"no element begins at the offset");
+    }
+    listed_status(options.view.selection, listed)
+}
+
 // Lists an input that was read, and returns the status.
 fn list(rt: &HostRuntime, options: &Options<'_>, input: &[u8]) -> u8 {
     match show(rt, options, input) {
-        Ok(conformance) => listed_status(options.view.selection, conformance),
+        Ok(listed) => end(rt, options, listed),
         Err(error) => failed_status(rt, options.input.name(), error),
     }
 }

@@ -1,6 +1,6 @@
 //! The options of the command line.
 
-use asn1show_lines::{InputFormat, Numbers, Selection, View};
+use asn1show_lines::{Extent, InputFormat, Numbers, Part, Selection, View};
 use clap::{Arg, ArgAction, ArgMatches, Command, Error};
 use program_io::{Input, VERSION};
 use std::alloc::{AllocError, Global};
@@ -20,6 +20,12 @@ pub struct Options<'a> {
 }
 
 const WIDTH: usize = 64;
+
+const DEPTH_HELP: &str = "Show no elements that are more than N levels deep";
+
+const AT_HELP: &str = "Show only the element at offset N, with what is in it";
+
+const EXTRACT_HELP: &str = "Write the bytes of the element at offset N";
 
 static MODES: [&str; 3] = ["ber", "der", "cer"];
 
@@ -79,6 +85,28 @@ fn value_arg<'a>(alloc: Global, id: &'static str, help: &'static str) -> Arg<'a>
     Arg::new(alloc, id).action(ArgAction::Set).help(help)
 }
 
+// An option with a number, which isn't given together with these others.
+fn number_arg<'a>(
+    alloc: Global,
+    name: &'static str,
+    others: &'static [&'static str],
+    help: &'static str,
+) -> Result<Arg<'a>, AllocError> {
+    value_arg(alloc, name, help)
+        .long(name)
+        .value_name("N")
+        .value_parser(clap::value_parser!(u32))
+        .conflicts_with_all(others)
+}
+
+fn contents_arg<'a>(alloc: Global) -> Result<Arg<'a>, AllocError> {
+    Arg::new(alloc, "contents")
+        .long("contents")
+        .action(ArgAction::SetTrue)
+        .help("With --extract, write only the contents of the element")
+        .requires_arg("extract")
+}
+
 fn width_arg<'a>(alloc: Global) -> Arg<'a> {
     value_arg(
         alloc,
@@ -125,6 +153,10 @@ fn push_flag(alloc: Global, args: &mut Vec<Arg<'_>>, flag: &Flag) -> Result<(), 
 
 fn push_values(alloc: Global, args: &mut Vec<Arg<'_>>) -> Result<(), AllocError> {
     args.push(check_arg(alloc))?;
+    args.push(number_arg(alloc, "depth", &["check", "extract"], DEPTH_HELP)?)?;
+    args.push(number_arg(alloc, "at", &["check", "extract"], AT_HELP)?)?;
+    args.push(number_arg(alloc, "extract", &["check"], EXTRACT_HELP)?)?;
+    args.push(contents_arg(alloc)?)?;
     args.push(decimal_arg(alloc))?;
     args.push(width_arg(alloc))?;
     Ok(args.push(file_arg(alloc))?)
@@ -171,11 +203,38 @@ fn checked_mode(matches: &ArgMatches<'_>) -> BERMode {
     }
 }
 
+// The number of an option, if it is given.
+fn number_of(matches: &ArgMatches<'_>, name: &str) -> Option<usize> {
+    match matches.get_one::<u32>(name) {
+        Some(number) => Some(number as usize),
+        None => None,
+    }
+}
+
+// The elements that are listed. None is more than 255 levels deep.
+fn extent_of(matches: &ArgMatches<'_>) -> Extent {
+    let depth = number_of(matches, "depth").unwrap_or(usize::MAX);
+    Extent {
+        at: number_of(matches, "at"),
+        depth: u8::try_from(depth).unwrap_or(u8::MAX),
+    }
+}
+
+fn part_of(matches: &ArgMatches<'_>) -> Part {
+    if matches.get_flag("contents") {
+        Part::Contents
+    } else {
+        Part::Whole
+    }
+}
+
 fn selection_of(matches: &ArgMatches<'_>) -> Selection {
     if matches.contains_id("check") {
-        Selection::Defects(checked_mode(matches))
-    } else {
-        Selection::Elements
+        return Selection::Defects(checked_mode(matches));
+    }
+    match number_of(matches, "extract") {
+        Some(at) => Selection::Bytes(at, part_of(matches)),
+        None => Selection::Elements(extent_of(matches)),
     }
 }
 
@@ -188,14 +247,10 @@ fn numbers_of(matches: &ArgMatches<'_>) -> Numbers {
 }
 
 fn view_of(matches: &ArgMatches<'_>) -> View {
-    let width = match matches.get_one::<u32>("width") {
-        Some(width) => width as usize,
-        None => WIDTH,
-    };
     View {
         selection: selection_of(matches),
         numbers: numbers_of(matches),
-        width,
+        width: number_of(matches, "width").unwrap_or(WIDTH),
     }
 }
 

@@ -13,7 +13,7 @@ ghost use Rattle.asn1show_walk.specs.WellFormed.{AreElements};
 use crate::digits::{decode_hex, text_of};
 use crate::input_format::{InputFormat, format_of};
 use crate::pem::{Block, PemReader, cut_line};
-use asn1show_printer::{LineBuffer, Names, Output, Printer, Style, View, write_quoted};
+use asn1show_printer::{LineBuffer, Names, Output, Printer, Source, Style, View, write_quoted};
 use asn1show_walk::{Expected, WalkError, list_input};
 use std::alloc::Global;
 use std::io::Write;
@@ -31,7 +31,7 @@ fn show_bytes<W: Write + Drop>(
     ensures elements { OnOk result (AreElements max_depth mode bytes.now) }
     ensures fails { IfErr result (λ f. WalkFails IsExternal (NoElements max_depth mode bytes.now) f) }
 {
-    let mut printer = Printer::begin(out, style)?;
+    let mut printer = Printer::begin(out, style, Source { mode, bytes })?;
     list_input(bytes, mode, &mut printer)?;
     printer.finish()
 }
@@ -128,7 +128,7 @@ fn show_whole_block<W: Write + Drop>(
 {
     let shown = show_block(out, mode, style, block);
     if let Err(error) = shown {
-        if !error.is_external() {
+        if !error.is_external() && style.view.selection.has_lines() {
             show_defect(out, style.alloc, &error)?;
         }
     }

@@ -3,3 +3,4 @@ pub mod Outputs
 pub mod Types
 pub mod Contents
 pub mod Components
+pub mod WholeElement

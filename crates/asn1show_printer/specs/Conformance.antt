@@ -7,7 +7,7 @@ use Rattle.asn1show_printer.specs.declared.diagnostic.Diagnostic.{Diagnostic}
 use Rattle.asn1show_printer.specs.declared.diagnostic.Diagnostic.TheVariants.{LongLength, Indefinite, Segments, Truth, Padding, Order, TagOrder, Time, Local}
 use Rattle.asn1show_printer.specs.declared.diagnostic.Diagnostic.TheVariants.{Definite, Uncut}
 use Rattle.asn1show_printer.specs.declared.selection.Selection.{Selection}
-use Rattle.asn1show_printer.specs.declared.selection.Selection.TheVariants.{Elements, Defects}
+use Rattle.asn1show_printer.specs.declared.selection.Selection.TheVariants.{Elements, Defects, Bytes}
 
 abbrev pub is_der : BERMode → Bool
 is_der Ber = false
@@ -47,13 +47,9 @@ conforms c Cer = c.cer
 
 -- whether a diagnostic of an element is shown, which may be in a string: in a listing what excludes DER, and in a check what excludes the rules of the whole
 abbrev pub shows : Selection → Bool → Diagnostic → Bool
-shows Elements in_string d = excludes d Der
+shows (Elements extent) in_string d = excludes d Der
 shows (Defects m) in_string d = not in_string && excludes d m
-
--- whether the line of an element is written: in a check only if the element isn't in its rules
-abbrev pub keeps : Selection → Conformance → Bool
-keeps Elements element = true
-keeps (Defects m) element = not (conforms element m)
+shows (Bytes at part) in_string d = false
 
 -- the conformance after further elements: to the modes that both conform to
 pub record AreMet (old further new : Conformance) : Type 0 where
@@ -75,5 +71,6 @@ IsDiagnosed false old (Some d) new = IsNoted old d new
 
 -- whether elements are as asked: in a check, in its rules
 abbrev pub accepts : Selection → Conformance → Bool
-accepts Elements c = true
+accepts (Elements extent) c = true
 accepts (Defects m) c = conforms c m
+accepts (Bytes at part) c = true

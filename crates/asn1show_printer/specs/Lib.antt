@@ -2,3 +2,4 @@ pub mod Types
 pub mod Contents
 pub mod Conformance
 pub mod Shown
+pub mod Selection

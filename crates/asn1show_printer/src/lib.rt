@@ -9,6 +9,7 @@
 //! | `sets` | the order of a SET, and how CER cuts strings |
 //! | `diagnostic` | diagnostics of elements, and the conformance of the whole |
 //! | `selection` | what is shown of elements |
+//! | `extraction` | the bytes of an element |
 //! | `line` | a line as it is made |
 //! | `output` | where lines are written |
 //! | `names` | names of types and of object identifiers |
@@ -19,6 +20,7 @@
 
 mod asn_type;
 mod diagnostic;
+mod extraction;
 mod line;
 mod names;
 mod output;
@@ -31,6 +33,6 @@ pub use diagnostic::Conformance;
 pub use line::LineBuffer;
 pub use names::Names;
 pub use output::Output;
-pub use printer::Printer;
-pub use selection::Selection;
+pub use printer::{Printer, Source};
+pub use selection::{Extent, Part, Selection};
 pub use value::{Numbers, Style, View, write_quoted};

@@ -1,10 +1,12 @@
 //! Where lines are written.
-ghost use Rattle.std.specs.Prelude.{◌≡◌, Some, IfErr};
+ghost use Rattle.std.specs.Prelude.{◌≡◌, ◌||◌, Some, IfErr};
 ghost use Rattle.asn1show_printer.specs.Conformance.{AreMet};
+ghost use Rattle.asn1show_printer.specs.Selection.{is_before};
 ghost use Rattle.asn1show_walk.specs.Errors.{IsExternal};
 
 use crate::diagnostic::Conformance;
 use crate::line::LineBuffer;
+use crate::selection::Position;
 use asn1show_walk::WalkError;
 use std::io;
 use std::io::Write;
@@ -16,6 +18,8 @@ pub struct Output<W: Write + Drop> {
     // The line that is to be before the next one.
     heading: Option<LineBuffer>,
     conformance: Conformance,
+    // Whether the element that is asked for wasn't found.
+    is_missing: bool,
 }
 
 impl<W: Write + Drop> Output<W> {
@@ -25,6 +29,7 @@ impl<W: Write + Drop> Output<W> {
             writer,
             heading: None,
             conformance: Conformance::new(),
+            is_missing: false,
         }
     }
 
@@ -47,9 +52,25 @@ impl<W: Write + Drop> Output<W> {
         self.conformance
     }
 
+    /// Whether the element that is asked for wasn't found, in an input or a block of PEM whose listing has ended.
+    pub fn is_missing(&self) -> bool
+        ensures { result ≡ self.now.is_missing }
+    {
+        self.is_missing
+    }
+
+    /// Notes whether the element that is asked for was found in an input.
+    pub(crate) fn note_position(&mut self, position: Position)
+        ensures missing { self.new.is_missing ≡ self.old.is_missing || is_before position }
+        ensures conformance { self.new.conformance ≡ self.old.conformance }
+    {
+        self.is_missing = self.is_missing || matches!(position, Position::Before);
+    }
+
     /// Drops the encoding rules that further elements don't conform to.
     pub(crate) fn meet(&mut self, further: Conformance)
-        ensures { AreMet self.old.conformance further self.new.conformance }
+        ensures met { AreMet self.old.conformance further self.new.conformance }
+        ensures missing { self.new.is_missing ≡ self.old.is_missing }
     {
         self.conformance.meet(further)
     }
@@ -58,6 +79,7 @@ impl<W: Write + Drop> Output<W> {
     pub fn begin(&mut self, heading: LineBuffer)
         ensures heading { self.new.heading ≡ Some heading }
         ensures conformance { self.new.conformance ≡ self.old.conformance }
+        ensures missing { self.new.is_missing ≡ self.old.is_missing }
     {
         self.heading = Some(heading);
     }
@@ -66,6 +88,7 @@ impl<W: Write + Drop> Output<W> {
     pub fn write_heading(&mut self) -> Result<(), WalkError>
         ensures external { IfErr result IsExternal }
         ensures conformance { self.new.conformance ≡ self.old.conformance }
+        ensures missing { self.new.is_missing ≡ self.old.is_missing }
     {
         match self.heading.take() {
             Some(mut heading) => heading.end(&mut self.writer),
@@ -73,10 +96,23 @@ impl<W: Write + Drop> Output<W> {
         }
     }
 
+    /// Writes bytes.
+    pub(crate) fn write_bytes(&mut self, bytes: &[u8]) -> Result<(), WalkError>
+        ensures external { IfErr result IsExternal }
+        ensures conformance { self.new.conformance ≡ self.old.conformance }
+        ensures missing { self.new.is_missing ≡ self.old.is_missing }
+    {
+        match self.writer.write_all(bytes) {
+            Ok(()) => Ok(()),
+            Err(error) => Err(WalkError::from(error)),
+        }
+    }
+
     /// Writes a line after the heading, and begins the next one.
     pub fn write(&mut self, line: &mut LineBuffer) -> Result<(), WalkError>
         ensures external { IfErr result IsExternal }
         ensures conformance { self.new.conformance ≡ self.old.conformance }
+        ensures missing { self.new.is_missing ≡ self.old.is_missing }
     {
         self.write_heading()?;
         line.end(&mut self.writer)

@@ -1,19 +1,22 @@
 //! The lines.
-ghost use Rattle.std.specs.Prelude.{◌≡◌, IfErr};
+ghost use Rattle.std.specs.Prelude.{◌≡◌, ◌||◌, IfErr};
 ghost use Rattle.asn1show_printer.specs.Conformance.{AreMet, IsDiagnosed};
+ghost use Rattle.asn1show_printer.specs.Selection.{is_before, position_after, start_of};
 ghost use Rattle.asn1show_walk.specs.Errors.{IsExternal};
 
 use crate::asn_type::{AsnType, type_of};
 use crate::diagnostic::{Conformance, Diagnostic, unless};
+use crate::extraction::part_of;
 use crate::line::LineBuffer;
 use crate::names::type_name;
 use crate::output::Output;
-use crate::selection::Selection;
+use crate::selection::{Position, Selection};
 use crate::sets::{are_cer_segments, order_of, stays_whole};
 use crate::value::{Style, is_shown_as_text, write_quoted, write_value};
 use asn1show_walk::{Context, Item, Place, Visitor, WalkError, is_one_element};
 use std::alloc::AllocError;
 use std::io::Write;
+use yasna_base::mode::BERMode;
 use yasna_base::tag::{PCBit, Tag, TagClass};
 use yasna_base::tags::{TAG_BITSTRING, TAG_OCTETSTRING};
 
@@ -31,15 +34,16 @@ impl<'w, 'n, W: Write + Drop> Printer<'w, 'n, W> {
     pub fn begin(
         output: &'w mut Output<W>,
         style: Style<'n>,
+        source: Source<'n>,
     ) -> Result<Printer<'w, 'n, W>, WalkError>
         ensures { IfErr result IsExternal }
     {
-        if matches!(style.view.selection, Selection::Elements) {
+        if matches!(style.view.selection, Selection::Elements(_)) {
             output.write_heading()?;
         }
         Ok(Printer {
             output,
-            report: Report::new(style),
+            report: Report::new(style, source),
         })
     }
 
@@ -54,11 +58,25 @@ impl<'w, 'n, W: Write + Drop> Printer<'w, 'n, W> {
     }
 }
 
+/// The bytes whose elements are printed.
+#[derive(Clone, Copy)]
+pub struct Source<'b> {
+    /// The encoding rules by which they are read.
+    pub mode: BERMode,
+    /// The bytes.
+    pub bytes: &'b [u8],
+}
+
 // The line of an element, and the state after those before it.
 #[derive(Drop)]
 struct Report<'n> {
     line: LineBuffer,
+    // The bytes that are extracted.
+    extracted: LineBuffer,
     style: Style<'n>,
+    source: Source<'n>,
+    // Where the listing is, relative to the element that is asked for.
+    position: Position,
     // The conformance of the elements before.
     conformance: Conformance,
     // The conformance of the element on the line.
@@ -73,10 +91,13 @@ struct Report<'n> {
 
 impl<'n> Report<'n> {
     // The report of no elements.
-    fn new(style: Style<'n>) -> Report<'n> {
+    fn new(style: Style<'n>, source: Source<'n>) -> Report<'n> {
         Report {
             line: LineBuffer::new(style.alloc),
+            extracted: LineBuffer::new(style.alloc),
             style,
+            source,
+            position: style.view.selection.start_position(),
             conformance: Conformance::new(),
             element: Conformance::new(),
             around: Vec::new(style.alloc),
@@ -152,16 +173,39 @@ impl<'n> Report<'n> {
     }
 
     // Ends the line of an element: writes it, if it is to be written, and counts the element for the conformance of the whole.
-    fn end_element<W: Write + Drop>(&mut self, output: &mut Output<W>) -> Result<(), WalkError>
+    fn end_element<W: Write + Drop>(
+        &mut self,
+        item: &Item<'_>,
+        output: &mut Output<W>,
+    ) -> Result<(), WalkError>
         ensures external { IfErr result IsExternal }
         ensures met { AreMet self.old.conformance self.old.element self.new.conformance }
+        ensures position { self.new.position ≡ position_after (start_of self.old.style.view.selection) self.old.position item.now.offset item.now.depth }
         ensures before { output.new.conformance ≡ output.old.conformance }
     {
         self.conformance.meet(self.element);
-        if self.style.view.selection.keeps(self.element) {
+        let selection = self.style.view.selection;
+        self.position = selection.position_after(self.position, item.offset, item.depth);
+        if selection.keeps(self.position, item.depth, self.element) {
             output.write(&mut self.line)
         } else {
             self.line.discard()
+        }
+    }
+
+    // Takes a part of an element, if it is the one that is asked for.
+    fn extract(&mut self, item: &Item<'_>)
+        ensures conformance { self.new.conformance ≡ self.old.conformance }
+        ensures element { self.new.element ≡ self.old.element }
+    {
+        let Selection::Bytes(at, part) = self.style.view.selection else {
+            return;
+        };
+        if item.offset != at {
+            return;
+        }
+        if let Some(part) = part_of(self.source.mode, self.source.bytes, item, part) {
+            self.extracted.write_all(part)
         }
     }
 
@@ -169,14 +213,17 @@ impl<'n> Report<'n> {
     fn end<W: Write + Drop>(&mut self, output: &mut Output<W>) -> Result<(), WalkError>
         ensures external { IfErr result IsExternal }
         ensures met { AreMet output.old.conformance self.old.conformance output.new.conformance }
+        ensures missing { output.new.is_missing ≡ output.old.is_missing || is_before self.old.position }
     {
         output.meet(self.conformance);
+        output.note_position(self.position);
         match self.style.view.selection {
-            Selection::Elements => {
+            Selection::Elements(_) => {
                 self.print_conformance();
                 output.write(&mut self.line)
             }
             Selection::Defects(_) => Ok(()),
+            Selection::Bytes(..) => output.write_bytes(self.extracted.text()?),
         }
     }
 
@@ -331,7 +378,8 @@ impl<'w, 'n, W: Write + Drop> Visitor for Printer<'w, 'n, W> {
 
     fn visit(&mut self, item: &Item<'_>) -> Result<(), WalkError> {
         self.report.print_element(item);
-        self.report.end_element(self.output)
+        self.report.extract(item);
+        self.report.end_element(item, self.output)
     }
 
     // Descends if the contents are one whole element, and the string isn't a segment.

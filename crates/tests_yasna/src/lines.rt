@@ -2,7 +2,7 @@
 
 use crate::checks::{finds_none, holds, spelled};
 use asn1show_lines::InputFormat::Hex;
-use asn1show_lines::{InputFormat, Numbers, Output, Selection, View, show};
+use asn1show_lines::{Extent, InputFormat, Numbers, Output, Selection, View, show};
 use asn1show_walk::{Context, Place, WalkError, is_one_element};
 use std::alloc::Global;
 use yasna::BERMode::{Ber, Cer, Der};
@@ -56,7 +56,10 @@ pub(crate) type Row = (&'static str, Option<InputFormat>, BERMode, Expectation);
 
 /// Each element, with 16 hexadecimal digits of a value.
 pub(crate) const ALL: View = View {
-    selection: Selection::Elements,
+    selection: Selection::Elements(Extent {
+        at: None,
+        depth: 255,
+    }),
     numbers: Numbers::Hexadecimal,
     width: 16,
 };
@@ -78,7 +81,8 @@ fn is_met(
     }
 }
 
-/// Whether an input is shown so in a view. If it is listed to its end, its elements are as asked or not.
+/// Whether an input is shown so in a view. If it is listed to its end, its elements are as asked and the one that is asked for was found, or
+/// not.
 pub(crate) fn is_viewed(
     alloc: Global,
     row: &Row,
@@ -95,9 +99,16 @@ pub(crate) fn is_viewed(
         view,
         input.as_bytes(),
     );
-    let accepted = view.selection.accepts(output.conformance());
+    let accepted = view.selection.accepts(output.conformance()) && !output.is_missing();
     let is_as_asked = outcome.is_err() || accepted == is_accepted;
     Ok(is_as_asked && is_met(alloc, output.writer().as_slice(), outcome, expected)?)
+}
+
+/// Whether exactly these bytes are written of an input in a view.
+pub(crate) fn is_written(alloc: Global, input: &str, view: View, bytes: &[u8]) -> bool {
+    let mut output = Output::new(Vec::new(alloc));
+    let outcome = show(alloc, &mut output, Ber, None, view, input.as_bytes());
+    outcome.is_ok() && output.writer().as_slice() == bytes
 }
 
 fn is_shown(
@@ -146,7 +157,7 @@ rules: BER, DER
 ";
 
 // An element of indefinite length around a SET OF out of order, a string in segments, and a string that holds an element.
-const NESTED: &str = "3080 3106 020102 020101 2480 0401AA 0401BB 0000 0403 020105 0000";
+pub(crate) const NESTED: &str = "3080 3106 020102 020101 2480 0401AA 0401BB 0000 0403 020105 0000";
 
 const NESTED_LINES: &str = "input: hexadecimal, 27 bytes
       0  2+indef    SEQUENCE -- not DER: indefinite length

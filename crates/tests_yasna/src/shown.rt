@@ -2,11 +2,12 @@
 
 use crate::checks::finds_none;
 use crate::lines::Expectation::{Constructed, Line, Listed, Malformed};
-use crate::lines::{ALL, Row, first_other, is_viewed};
+use crate::lines::{ALL, Expectation, NESTED, Row, first_other, is_viewed, is_written};
 use asn1show_lines::InputFormat::Hex;
 use asn1show_lines::Numbers::Decimal;
-use asn1show_lines::Selection::Defects;
-use asn1show_lines::View;
+use asn1show_lines::Part::{Contents, Whole};
+use asn1show_lines::Selection::{Bytes, Defects, Elements};
+use asn1show_lines::{Extent, Selection, View};
 use std::alloc::Global;
 use yasna::BERMode;
 use yasna::BERMode::{Ber, Cer, Der};
@@ -540,4 +541,132 @@ fn first_other_in_decimal(alloc: Global) -> Option<&'static str> {
 #[test]
 fn long_numbers_are_in_decimal_if_asked_for(rt: HostRuntime) {
     finds_none(&rt, first_other_in_decimal(rt.alloc()));
+}
+
+// The elements of `NESTED` that are listed, what is printed of them, and whether the one that is asked for was found.
+static SELECTED: [(Selection, Expectation, bool); 9] = [
+    (
+        Elements(Extent { at: None, depth: 0 }),
+        Listed(
+            "input: hexadecimal, 27 bytes
+      0  2+indef    SEQUENCE -- not DER: indefinite length
+rules: BER
+",
+            "",
+        ),
+        true,
+    ),
+    (
+        Elements(Extent {
+            at: Some(10),
+            depth: 255,
+        }),
+        Listed(
+            "input: hexadecimal, 27 bytes
+     10  2+indef      OCTET STRING -- not DER: indefinite length -- not DER: cut into segments
+     12  2+1            OCTET STRING 'AA'H
+     15  2+1            OCTET STRING 'BB'H
+rules: BER
+",
+            "",
+        ),
+        true,
+    ),
+    (
+        Elements(Extent {
+            at: Some(0),
+            depth: 1,
+        }),
+        Listed(
+            "input: hexadecimal, 27 bytes
+      0  2+indef    SEQUENCE -- not DER: indefinite length
+      2  2+6          SET -- not DER: a SET OF out of order
+     10  2+indef      OCTET STRING -- not DER: indefinite length -- not DER: cut into segments
+     20  2+3          OCTET STRING '020105'H
+rules: BER
+",
+            "",
+        ),
+        true,
+    ),
+    (
+        Elements(Extent {
+            at: Some(22),
+            depth: 0,
+        }),
+        Listed(
+            "input: hexadecimal, 27 bytes
+     22  2+1      >     INTEGER 5
+rules: BER
+",
+            "",
+        ),
+        true,
+    ),
+    (
+        Elements(Extent {
+            at: Some(3),
+            depth: 0,
+        }),
+        Listed("input: hexadecimal, 27 bytes\nrules: BER\n", ""),
+        false,
+    ),
+    (Bytes(4, Whole), Listed("\u{2}\u{1}\u{2}", ""), true),
+    (Bytes(4, Contents), Listed("\u{2}", ""), true),
+    (Bytes(20, Contents), Listed("\u{2}\u{1}\u{5}", ""), true),
+    (Bytes(5, Whole), Listed("", ""), false),
+];
+
+// An input, the part of an element that is extracted, and its bytes.
+static EXTRACTED: [(&str, Selection, &[u8]); 4] = [
+    (
+        "3009 2480 040141 0000 0500",
+        Bytes(2, Whole),
+        &[0x24, 0x80, 0x04, 0x01, 0x41, 0x00, 0x00],
+    ),
+    (
+        "3007 2480 040141 0000",
+        Bytes(2, Contents),
+        &[0x04, 0x01, 0x41],
+    ),
+    ("3080 0000 0500", Bytes(4, Whole), &[0x05, 0x00]),
+    (
+        "-----BEGIN X-----\nAgEF\n-----END X-----\n-----BEGIN Y-----\nAgIFBw==\n-----END Y-----\n",
+        Bytes(0, Contents),
+        &[0x05, 0x05, 0x07],
+    ),
+];
+
+fn first_other_selected(alloc: Global) -> Option<usize> {
+    for (index, (selection, expected, is_found)) in SELECTED.iter().enumerate() {
+        let view = View {
+            selection: *selection,
+            ..ALL
+        };
+        let row = (NESTED, None, Ber, *expected);
+        if !matches!(is_viewed(alloc, &row, view, *is_found), Ok(true)) {
+            return Some(index);
+        }
+    }
+    None
+}
+
+fn first_other_extracted(alloc: Global) -> Option<&'static str> {
+    for (input, selection, bytes) in &EXTRACTED {
+        let view = View {
+            selection: *selection,
+            ..ALL
+        };
+        if !is_written(alloc, input, view, bytes) {
+            return Some(*input);
+        }
+    }
+    None
+}
+
+#[test]
+fn elements_are_selected_by_offset_and_depth(rt: HostRuntime) {
+    let index = first_other_selected(rt.alloc());
+    assert!(rt; index.is_none(), "{index:?}");
+    finds_none(&rt, first_other_extracted(rt.alloc()));
 }
