@@ -22,9 +22,9 @@ byte_order_mark = 239 ∷ 187 ∷ 191 ∷ []
 abbrev pub text_of : List ℕ → List ℕ
 text_of input = cond (starts_with nat_eq input byte_order_mark) (drop 3 input) input
 
--- a separator of hexadecimal digits: a space, a line end or a colon
+-- a separator of hexadecimal digits: a space, a line end, a colon or a comma
 abbrev pub is_between : ℕ → Bool
-is_between c = is_ascii_whitespace c || c == 58
+is_between c = is_ascii_whitespace c || c == 58 || c == 44
 
 -- an octet of a text in hexadecimal
 abbrev pub is_in_hex : ℕ → Bool

@@ -29,11 +29,11 @@ pub fn text_of(input: &[u8]) -> &[u8]
     }
 }
 
-/// Whether an octet may be between hexadecimal digits: a space, a line end or a colon.
+/// Whether an octet may be between hexadecimal digits: a space, a line end, a colon or a comma.
 pub fn is_between_digits(octet: u8) -> bool
     ensures { result ≡ is_between octet }
 {
-    octet.is_ascii_whitespace() || octet == b':'
+    octet.is_ascii_whitespace() || octet == b':' || octet == b','
 }
 
 /// Whether an octet is one of a text in hexadecimal: a digit, or between digits.

@@ -13,7 +13,7 @@ use crate::pem::{begins_as_block, cut_line};
 pub enum InputFormat {
     /// The bytes themselves.
     Bytes,
-    /// Hexadecimal digits, with spaces, line ends and colons between them. A byte order mark may be before.
+    /// Hexadecimal digits, with spaces, line ends, colons and commas between them. A byte order mark may be before.
     Hex,
     /// Blocks in base64 between lines, with any text around them. A byte order mark may be before.
     Pem,

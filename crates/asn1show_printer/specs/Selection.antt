@@ -1,5 +1,5 @@
 -- Which elements of a listing are selected, and the bytes that are extracted of one.
-use Rattle.std.specs.Prelude.{◌≡◌, ◌≤◌, ◌+◌, ◌==◌, ℕ, Bool, true, false, cond, not, List, ◌++◌, length, Option, Some, None, IsTrue, nat_le, nat_lt}
+use Rattle.std.specs.Prelude.{◌≡◌, ◌+◌, ◌==◌, ℕ, Bool, true, false, cond, not, List, ◌++◌, length, Option, Some, None, nat_le, nat_lt}
 use Rattle.yasna_base.specs.Grammar.{max_depth}
 use Rattle.yasna_base.specs.Raw.{RawValue, IsRaw}
 use Rattle.yasna_base.specs.declared.mode.BERMode.{BERMode}

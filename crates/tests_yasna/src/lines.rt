@@ -173,7 +173,13 @@ rules: BER
 ";
 
 // Inputs whose encoding isn't given, the rules, and what is wanted of them.
-static LINES: [Row; 24] = [
+static LINES: [Row; 25] = [
+    (
+        "01, 01, FF,",
+        None,
+        Ber,
+        Line("2+1        BOOLEAN TRUE", "BER, DER, CER"),
+    ),
     (KEY, None, Der, Listed(KEY_LINES, "")),
     (NESTED, None, Ber, Listed(NESTED_LINES, "")),
     ("30 00\n", None, Ber, Head("input: hexadecimal, 2 bytes")),
