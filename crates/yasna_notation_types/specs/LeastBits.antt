@@ -1,7 +1,9 @@
 -- BIT STRING with named bits (X.680, 22.7): zero bits at its end are removed when it is written (X.690, 11.2.2), and have no meaning.
-use Rattle.std.proofs.Common.{◌≡◌, ◌∷◌, [], ◌+◌, ◌-◌, ◌/◌, ◌%◌, ◌<◌, ◌≤◌, ◌^◌, ◌||◌, ℕ, zero, suc, Bool, true, false, List, length, get_or, take, refl, sym, ap, ap₂, subst, ◌∙◌, arith}
-use Rattle.std.proofs.lemmas.Bool.{eqb-true}
-use Rattle.std.proofs.lemmas.List.{get_or-take, take_all, length-take-le}
+use Rattle.std.proofs.Common.{◌≡◌, ◌∷◌, [], ◌+◌, ◌-◌, ◌*◌, ◌/◌, ◌%◌, ◌<◌, ◌≤◌, ◌^◌, ◌||◌, ℕ, zero, suc, Bool, true, false, List, length, get_or, take, refl, sym, ap, ap₂, subst, ◌∙◌, arith}
+use Rattle.std.proofs.lemmas.Bool.{eqb-true, ltb-true, ltb-false}
+use Rattle.std.proofs.lemmas.List.{get_or-take, get_or_past, take_all, length-take-le}
+use Rattle.std.proofs.Math.Dec.{ltb}
+use Rattle.std.proofs.Math.Nat.{zero-div}
 use Rattle.std.specs.Prelude.{if◌then◌else◌, nat_eq, ◌⊎◌}
 use Rattle.std.proofs.Common.{inl, inr}
 use Rattle.yasna_base.specs.declared.mode.BERMode.{BERMode}
@@ -71,23 +73,41 @@ bytes_of_take zero d h = tt
 bytes_of_take (suc n) [] h = tt
 bytes_of_take (suc n) (x ∷ d) h = (h.0, bytes_of_take n d h.1)
 
--- how many bytes the rest has
-size_left : (v : BitString) → CanBits v → length (without_zeros v).bytes ≡ (bits_left v v.count + 7) / 8
-size_left v h =
+-- a bit that is one is in a byte
+in_a_byte : (v : BitString) (i : ℕ) → bit_at v i ≡ 1 → i < 8 * length v.bytes
+in_a_byte v i one = by_place (ltb (i / 8) (length v.bytes)) refl
+  where
+    by_place : (b : Bool) → ltb (i / 8) (length v.bytes) ≡ b → i < 8 * length v.bytes
+    by_place true e = omega (arith, ltb-true (i / 8) (length v.bytes) e)
+    by_place false e =
+        let past : length v.bytes ≤ i / 8 = ltb-false (i / 8) (length v.bytes) e in
+        let none : bit_at v i ≡ 0 = ap (λ x. (x / 2 ^ (7 - i % 8)) % 2) (get_or_past v.bytes (i / 8) 0 past) ∙ ap (λ x. x % 2) (zero-div (2 ^ (7 - i % 8))) in
+        absurd (omega (arith, one, none))
+
+-- the bits that are left are in the bytes
+left_held : (v : BitString) → bits_left v v.count ≤ 8 * length v.bytes
+left_held v = by_last (last_is_one v v.count)
+  where
+    by_last : (bits_left v v.count ≡ 0) ⊎ (bit_at v (bits_left v v.count - 1) ≡ 1) → bits_left v v.count ≤ 8 * length v.bytes
+    by_last (inl none) = omega (arith, none)
+    by_last (inr one) = omega (arith, in_a_byte v (bits_left v v.count - 1) one)
+
+-- whatever the bytes and the count are, without zeros at its end a string can be written
+pub any_without_zeros : (v : BitString) → IsBytes v.bytes → v.count < 2 ^ 64 → CanBits (without_zeros v)
+any_without_zeros v bytes range =
     let below = left_below v v.count in
-    length-take-le ((bits_left v v.count + 7) / 8) v.bytes (omega (arith, below, h.enough))
+    let held = left_held v in
+    let size : length (without_zeros v).bytes ≡ (bits_left v v.count + 7) / 8 = length-take-le ((bits_left v v.count + 7) / 8) v.bytes (omega (arith, held)) in
+    record {
+      in_bytes = bytes_of_take ((bits_left v v.count + 7) / 8) v.bytes bytes;
+      enough = omega (arith, size);
+      least = omega (arith, size);
+      in_range = omega (arith, below, range);
+    }
 
 -- if a string can be written, so can it without zeros at its end
 trim_can : (v : BitString) → CanBits v → CanBits (without_zeros v)
-trim_can v h =
-    let below = left_below v v.count in
-    let size = size_left v h in
-    record {
-      in_bytes = bytes_of_take ((bits_left v v.count + 7) / 8) v.bytes h.in_bytes;
-      enough = omega (arith, size);
-      least = omega (arith, size);
-      in_range = omega (arith, below, h.in_range);
-    }
+trim_can v h = any_without_zeros v h.in_bytes h.in_range
 
 not_zero : (i : ℕ) → nat_eq (suc i) 0 ≡ false
 not_zero i = by_test (nat_eq (suc i) 0) refl

@@ -11,6 +11,7 @@
 //! | `elements` | types each of whose encodings is one element |
 //! | `set_part`, `set_choices` | types that may be a part of a SET |
 //! | `set_parts`, `set_defaults` | SET of parts |
+//! | `checked` | whether a value of one of these types can be written |
 //!
 //! Each of these has an example, which is a type of a small module:
 //!
@@ -26,6 +27,7 @@
 #![tactic(auto)]
 
 mod beginning;
+mod checked;
 mod elements;
 mod entry;
 mod header;

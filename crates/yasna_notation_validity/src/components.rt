@@ -150,9 +150,9 @@ impl<'a, A: Checked> CheckedBy<&'a Option<A::Value>> for Last<A> {
     }
 }
 
-// Whether a part that may be omitted can be written.
+/// Whether a part that may be omitted can be written.
 #[inline(always)]
-fn accepts_optional<A: Checked>(value: &Option<A::Value>) -> bool
+pub fn accepts_optional<A: Checked>(value: &Option<A::Value>) -> bool
     ensures { IsTrue result ↔ option_can A.means.can value.now }
 {
     match value {
@@ -161,9 +161,9 @@ fn accepts_optional<A: Checked>(value: &Option<A::Value>) -> bool
     }
 }
 
-// Whether a part can be written: the default, which is omitted, always can.
+/// Whether a part with a default can be written: the default, which is omitted, always can.
 #[inline(always)]
-fn accepts_default<A: Checked, D: DefaultValue<A>>(value: &A::Value) -> bool
+pub fn accepts_default<A: Checked, D: DefaultValue<A>>(value: &A::Value) -> bool
 where
     A::Value: Eq,
     ensures { IsTrue result ↔ default_can D.is A.means.can value.now }

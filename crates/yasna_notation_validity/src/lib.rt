@@ -25,5 +25,5 @@ mod tests;
 
 pub use alternatives::CheckedAlternatives;
 pub use checked::{Checked, IsValid};
-pub use components::{CheckedBy, CheckedParts, accepts_fields};
+pub use components::{CheckedBy, CheckedParts, accepts_default, accepts_fields, accepts_optional};
 pub use defined::CheckedType;
