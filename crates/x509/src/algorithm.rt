@@ -5,7 +5,7 @@
 //!     algorithm   OBJECT IDENTIFIER,
 //!     parameters  ANY DEFINED BY algorithm OPTIONAL }
 //! ```
-ghost use Rattle.std.specs.Prelude.{◌≡◌, refl};
+ghost use Rattle.std.specs.Prelude.{◌≡◌, ◌↔◌, IsTrue, refl};
 ghost use Rattle.yasna_notation.specs.Laws.{represented_lawful, element_non_empty};
 ghost use Rattle.yasna_notation.specs.Making.{in_sequence, part};
 ghost use Rattle.yasna_notation.specs.Notation.{represented_by};
@@ -17,6 +17,7 @@ use yasna::models::{ObjectIdentifier, TaggedDerValue};
 use yasna::tags::TAG_SEQUENCE;
 use yasna::{ASN1Result, BERMode, BERReader, DERWriter, PrependBuffer, Tag};
 use yasna_notation::{Last, Message, Notation, Represents, Sequence, read_as};
+use yasna_notation_validity::{Checked, accepts_fields};
 
 type Parts = (ObjectIdentifier, Last<TaggedDerValue>);
 
@@ -83,4 +84,10 @@ impl Notation for AlgorithmIdentifier {
 
 impl Message for AlgorithmIdentifier {
     ghost is_unambiguous = { refl };
+}
+
+impl Checked for AlgorithmIdentifier {
+    fn accepts(value: &AlgorithmIdentifier) -> bool {
+        accepts_fields::<Parts, _>((&value.algorithm, &value.parameters))
+    }
 }

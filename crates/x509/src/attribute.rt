@@ -5,7 +5,7 @@
 //!     type    OBJECT IDENTIFIER,
 //!     values  SET OF ANY DEFINED BY type }
 //! ```
-ghost use Rattle.std.specs.Prelude.{◌≡◌, refl};
+ghost use Rattle.std.specs.Prelude.{◌≡◌, ◌↔◌, IsTrue, refl};
 ghost use Rattle.yasna_notation.specs.Laws.{represented_lawful, element_non_empty};
 ghost use Rattle.yasna_notation.specs.Making.{in_sequence, in_set_of, part};
 ghost use Rattle.yasna_notation.specs.Notation.{represented_by};
@@ -17,6 +17,7 @@ use yasna::models::{ObjectIdentifier, TaggedDerValue};
 use yasna::tags::TAG_SEQUENCE;
 use yasna::{ASN1Result, BERMode, BERReader, DERWriter, PrependBuffer, Tag};
 use yasna_notation::{Message, Notation, Represents, Sequence, SetOf, read_as};
+use yasna_notation_validity::{Checked, accepts_fields};
 
 type Parts = (ObjectIdentifier, (SetOf<TaggedDerValue>, ()));
 
@@ -75,4 +76,10 @@ impl Notation for Attribute {
 
 impl Message for Attribute {
     ghost is_unambiguous = { refl };
+}
+
+impl Checked for Attribute {
+    fn accepts(value: &Attribute) -> bool {
+        accepts_fields::<Parts, _>((&value.attribute_type, (&value.values, ())))
+    }
 }

@@ -5,7 +5,7 @@
 //!     type   OBJECT IDENTIFIER,
 //!     value  ANY DEFINED BY type }
 //! ```
-ghost use Rattle.std.specs.Prelude.{◌≡◌, refl};
+ghost use Rattle.std.specs.Prelude.{◌≡◌, ◌↔◌, IsTrue, refl};
 ghost use Rattle.yasna_notation.specs.Laws.{represented_lawful, element_non_empty};
 ghost use Rattle.yasna_notation.specs.Making.{in_sequence, part};
 ghost use Rattle.yasna_notation.specs.Notation.{represented_by};
@@ -17,6 +17,7 @@ use yasna::models::{ObjectIdentifier, TaggedDerValue};
 use yasna::tags::TAG_SEQUENCE;
 use yasna::{ASN1Result, BERMode, BERReader, DERWriter, PrependBuffer, Tag};
 use yasna_notation::{Message, Notation, Represents, Sequence, read_as};
+use yasna_notation_validity::{Checked, accepts_fields};
 
 type Parts = (ObjectIdentifier, (TaggedDerValue, ()));
 
@@ -83,4 +84,10 @@ impl Notation for AttributeTypeAndValue {
 
 impl Message for AttributeTypeAndValue {
     ghost is_unambiguous = { refl };
+}
+
+impl Checked for AttributeTypeAndValue {
+    fn accepts(value: &AttributeTypeAndValue) -> bool {
+        accepts_fields::<Parts, _>((&value.attribute_type, (&value.value, ())))
+    }
 }

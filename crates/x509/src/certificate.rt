@@ -6,7 +6,7 @@
 //!     signatureAlgorithm  AlgorithmIdentifier,
 //!     signatureValue      BIT STRING }
 //! ```
-ghost use Rattle.std.specs.Prelude.{◌≡◌, refl};
+ghost use Rattle.std.specs.Prelude.{◌≡◌, ◌↔◌, IsTrue, refl};
 ghost use Rattle.yasna_notation.specs.Laws.{represented_lawful, element_non_empty};
 ghost use Rattle.yasna_notation.specs.Making.{in_sequence, part};
 ghost use Rattle.yasna_notation.specs.Notation.{represented_by};
@@ -20,6 +20,7 @@ use crate::tbs_certificate::TbsCertificate;
 use yasna::tags::TAG_SEQUENCE;
 use yasna::{ASN1Result, BERMode, BERReader, DERWriter, PrependBuffer, Tag};
 use yasna_notation::{BitString, Message, Notation, Represents, Sequence};
+use yasna_notation_validity::{Checked, accepts_fields};
 
 type Parts = (TbsCertificate, (AlgorithmIdentifier, (BitString, ())));
 
@@ -121,4 +122,13 @@ impl Notation for Certificate {
 
 impl Message for Certificate {
     ghost is_unambiguous = { refl };
+}
+
+impl Checked for Certificate {
+    fn accepts(value: &Certificate) -> bool {
+        accepts_fields::<Parts, _>((
+            &value.tbs_certificate,
+            (&value.signature_algorithm, (&value.signature_value, ())),
+        ))
+    }
 }

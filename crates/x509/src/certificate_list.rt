@@ -6,7 +6,7 @@
 //!     signatureAlgorithm  AlgorithmIdentifier,
 //!     signatureValue      BIT STRING }
 //! ```
-ghost use Rattle.std.specs.Prelude.{◌≡◌, refl};
+ghost use Rattle.std.specs.Prelude.{◌≡◌, ◌↔◌, IsTrue, refl};
 ghost use Rattle.yasna_notation.specs.Laws.{represented_lawful, element_non_empty};
 ghost use Rattle.yasna_notation.specs.Making.{in_sequence, part};
 ghost use Rattle.yasna_notation.specs.Notation.{represented_by};
@@ -20,6 +20,7 @@ use crate::tbs_cert_list::TbsCertList;
 use yasna::tags::TAG_SEQUENCE;
 use yasna::{ASN1Result, BERMode, BERReader, DERWriter, PrependBuffer, Tag};
 use yasna_notation::{BitString, Message, Notation, Represents, Sequence, read_as};
+use yasna_notation_validity::{Checked, accepts_fields};
 
 type Parts = (TbsCertList, (AlgorithmIdentifier, (BitString, ())));
 
@@ -107,4 +108,13 @@ impl Notation for CertificateList {
 
 impl Message for CertificateList {
     ghost is_unambiguous = { refl };
+}
+
+impl Checked for CertificateList {
+    fn accepts(value: &CertificateList) -> bool {
+        accepts_fields::<Parts, _>((
+            &value.tbs_cert_list,
+            (&value.signature_algorithm, (&value.signature_value, ())),
+        ))
+    }
 }

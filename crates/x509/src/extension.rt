@@ -6,11 +6,12 @@
 //!     critical   BOOLEAN DEFAULT FALSE,
 //!     extnValue  OCTET STRING }
 //! ```
-ghost use Rattle.std.specs.Prelude.{◌≡◌, refl};
+ghost use Rattle.std.specs.Prelude.{◌≡◌, ◌↔◌, IsTrue, refl};
 
 use yasna::models::ObjectIdentifier;
 use yasna::{ASN1Result, BERMode, DERWriter, PrependBuffer, Tag};
 use yasna_notation::{Default, DefinedType, False, Sequence};
+use yasna_notation_validity::{CheckedType, accepts_fields};
 
 type Parts = (ObjectIdentifier, (Default<bool, False>, (Vec<u8>, ())));
 
@@ -61,4 +62,10 @@ impl DefinedType for Extension {
     }
 
     ghost unambiguous = { refl };
+}
+
+impl CheckedType for Extension {
+    fn accepts_value(&self) -> bool {
+        accepts_fields::<Parts, _>((&self.extn_id, (&self.critical, (&self.extn_value, ()))))
+    }
 }

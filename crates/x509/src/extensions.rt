@@ -3,7 +3,7 @@
 //! ```text
 //! Extensions ::= SEQUENCE SIZE (1..MAX) OF Extension
 //! ```
-ghost use Rattle.std.specs.Prelude.{◌≡◌, false, not, refl};
+ghost use Rattle.std.specs.Prelude.{◌≡◌, ◌↔◌, IsTrue, false, not, refl};
 ghost use Rattle.yasna_notation.specs.Laws.{represented_lawful, element_non_empty};
 ghost use Rattle.yasna_notation.specs.Making.{in_sequence, in_sequence_of, not_empty, part, default_part};
 ghost use Rattle.yasna_notation.specs.Notation.{represented_by};
@@ -18,6 +18,7 @@ use yasna::{ASN1Result, BERMode, BERReader, DERWriter, PrependBuffer, Tag};
 use yasna_notation::{
     Bounded, DefinedType, Message, NotEmpty, Notation, Represents, SequenceOf, read_as,
 };
+use yasna_notation_validity::Checked;
 
 type List = Bounded<SequenceOf<Extension>, NotEmpty>;
 
@@ -72,4 +73,10 @@ impl Notation for Extensions {
 
 impl Message for Extensions {
     ghost is_unambiguous = { refl };
+}
+
+impl Checked for Extensions {
+    fn accepts(value: &Extensions) -> bool {
+        List::accepts(&value.extensions)
+    }
 }

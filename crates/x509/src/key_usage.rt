@@ -7,7 +7,7 @@
 //! ```
 //!
 //! Another bit is read too, and is written again. That at least one bit is one isn't required here.
-ghost use Rattle.std.specs.Prelude.{◌≡◌, refl};
+ghost use Rattle.std.specs.Prelude.{◌≡◌, ◌↔◌, IsTrue, refl};
 ghost use Rattle.yasna_bytes.specs.Segments.{bits_in};
 ghost use Rattle.x509.specs.Bits.{has_bit};
 
@@ -15,6 +15,7 @@ use crate::bits::has_bit;
 use yasna::{ASN1Result, BERMode, DERWriter, PrependBuffer, Tag};
 use yasna_notation::{DefinedType, Notation};
 use yasna_notation_types::LeastBits;
+use yasna_notation_validity::{Checked, CheckedType};
 
 /// What a key may be used for: what the octets hold of an extension 2.5.29.15.
 #[derive(Drop)]
@@ -110,4 +111,10 @@ impl DefinedType for KeyUsage {
     }
 
     ghost unambiguous = { refl };
+}
+
+impl CheckedType for KeyUsage {
+    fn accepts_value(&self) -> bool {
+        LeastBits::accepts(&self.bits)
+    }
 }

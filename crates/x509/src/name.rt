@@ -5,7 +5,7 @@
 //!
 //! RDNSequence ::= SEQUENCE OF RelativeDistinguishedName
 //! ```
-ghost use Rattle.std.specs.Prelude.{◌≡◌, refl};
+ghost use Rattle.std.specs.Prelude.{◌≡◌, ◌↔◌, IsTrue, refl};
 ghost use Rattle.yasna_notation.specs.Laws.{represented_lawful, element_non_empty};
 ghost use Rattle.yasna_notation.specs.Making.{in_sequence_of};
 ghost use Rattle.yasna_notation.specs.Notation.{represented_by};
@@ -16,6 +16,7 @@ use crate::relative_distinguished_name::RelativeDistinguishedName;
 use yasna::tags::TAG_SEQUENCE;
 use yasna::{ASN1Result, BERMode, BERReader, DERWriter, PrependBuffer, Tag};
 use yasna_notation::{Message, Notation, Represents, SequenceOf, read_as};
+use yasna_notation_validity::Checked;
 
 /// A name: its parts, from the outermost level to the innermost.
 #[derive(Drop)]
@@ -78,4 +79,12 @@ impl Notation for Name {
 
 impl Message for Name {
     ghost is_unambiguous = { refl };
+}
+
+impl Checked for Name {
+    fn accepts(value: &Name) -> bool {
+        match value {
+            Name::RdnSequence(parts) => SequenceOf::<RelativeDistinguishedName>::accepts(parts),
+        }
+    }
 }

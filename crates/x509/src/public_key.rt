@@ -5,7 +5,7 @@
 //!     algorithm         AlgorithmIdentifier,
 //!     subjectPublicKey  BIT STRING }
 //! ```
-ghost use Rattle.std.specs.Prelude.{◌≡◌, refl};
+ghost use Rattle.std.specs.Prelude.{◌≡◌, ◌↔◌, IsTrue, refl};
 ghost use Rattle.yasna_notation.specs.Laws.{represented_lawful, element_non_empty};
 ghost use Rattle.yasna_notation.specs.Making.{in_sequence, part};
 ghost use Rattle.yasna_notation.specs.Notation.{represented_by};
@@ -17,6 +17,7 @@ use crate::algorithm::AlgorithmIdentifier;
 use yasna::tags::TAG_SEQUENCE;
 use yasna::{ASN1Result, BERMode, BERReader, DERWriter, PrependBuffer, Tag};
 use yasna_notation::{BitString, Message, Notation, Represents, Sequence, read_as};
+use yasna_notation_validity::{Checked, accepts_fields};
 
 type Parts = (AlgorithmIdentifier, (BitString, ()));
 
@@ -91,4 +92,10 @@ impl Notation for SubjectPublicKeyInfo {
 
 impl Message for SubjectPublicKeyInfo {
     ghost is_unambiguous = { refl };
+}
+
+impl Checked for SubjectPublicKeyInfo {
+    fn accepts(value: &SubjectPublicKeyInfo) -> bool {
+        accepts_fields::<Parts, _>((&value.algorithm, (&value.subject_public_key, ())))
+    }
 }

@@ -7,7 +7,7 @@
 //! ```
 //!
 //! Bit 0 and others without a name are read too, and are written again.
-ghost use Rattle.std.specs.Prelude.{◌≡◌, refl};
+ghost use Rattle.std.specs.Prelude.{◌≡◌, ◌↔◌, IsTrue, refl};
 ghost use Rattle.yasna_bytes.specs.Segments.{bits_in};
 ghost use Rattle.x509.specs.Bits.{has_bit};
 
@@ -15,6 +15,7 @@ use crate::bits::has_bit;
 use yasna::{ASN1Result, BERMode, DERWriter, PrependBuffer, Tag};
 use yasna_notation::{DefinedType, Notation};
 use yasna_notation_types::LeastBits;
+use yasna_notation_validity::{Checked, CheckedType};
 
 /// The reasons of a revocation for which a list is given. In a distribution point they are under `[1] IMPLICIT`, and under `[3]` in an
 /// issuing one.
@@ -104,4 +105,10 @@ impl DefinedType for ReasonFlags {
     }
 
     ghost unambiguous = { refl };
+}
+
+impl CheckedType for ReasonFlags {
+    fn accepts_value(&self) -> bool {
+        LeastBits::accepts(&self.bits)
+    }
 }

@@ -3,7 +3,7 @@
 //! ```text
 //! RelativeDistinguishedName ::= SET SIZE (1..MAX) OF AttributeTypeAndValue
 //! ```
-ghost use Rattle.std.specs.Prelude.{◌≡◌, refl};
+ghost use Rattle.std.specs.Prelude.{◌≡◌, ◌↔◌, IsTrue, refl};
 ghost use Rattle.yasna_notation.specs.Laws.{represented_lawful, element_non_empty};
 ghost use Rattle.yasna_notation.specs.Making.{in_set_of, set_not_empty};
 ghost use Rattle.yasna_notation.specs.Notation.{represented_by};
@@ -13,6 +13,7 @@ use crate::attribute_type_and_value::AttributeTypeAndValue;
 use yasna::tags::TAG_SET;
 use yasna::{ASN1Result, BERMode, BERReader, DERWriter, PrependBuffer, Tag};
 use yasna_notation::{Bounded, Message, NotEmpty, Notation, Represents, SetOf, read_as};
+use yasna_notation_validity::Checked;
 
 type Set = Bounded<SetOf<AttributeTypeAndValue>, NotEmpty>;
 
@@ -74,4 +75,10 @@ impl Notation for RelativeDistinguishedName {
 
 impl Message for RelativeDistinguishedName {
     ghost is_unambiguous = { refl };
+}
+
+impl Checked for RelativeDistinguishedName {
+    fn accepts(value: &RelativeDistinguishedName) -> bool {
+        Set::accepts(&value.attributes)
+    }
 }

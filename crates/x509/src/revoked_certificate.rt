@@ -6,7 +6,7 @@
 //!     revocationDate      Time,
 //!     crlEntryExtensions  Extensions OPTIONAL }
 //! ```
-ghost use Rattle.std.specs.Prelude.{◌≡◌, refl};
+ghost use Rattle.std.specs.Prelude.{◌≡◌, ◌↔◌, IsTrue, refl};
 ghost use Rattle.yasna_notation.specs.Laws.{represented_lawful, element_non_empty};
 ghost use Rattle.yasna_notation.specs.Making.{in_sequence, part};
 ghost use Rattle.yasna_notation.specs.Notation.{represented_by};
@@ -21,6 +21,7 @@ use crate::time_part::TimePart;
 use yasna::tags::TAG_SEQUENCE;
 use yasna::{ASN1Result, BERMode, BERReader, DERWriter, PrependBuffer, Tag};
 use yasna_notation::{BigInteger, Last, Message, Notation, Represents, Sequence, read_as};
+use yasna_notation_validity::{Checked, accepts_fields};
 
 type Parts = (BigInteger, (TimePart, Last<Extensions>));
 
@@ -108,4 +109,13 @@ impl Notation for RevokedCertificate {
 
 impl Message for RevokedCertificate {
     ghost is_unambiguous = { refl };
+}
+
+impl Checked for RevokedCertificate {
+    fn accepts(value: &RevokedCertificate) -> bool {
+        accepts_fields::<Parts, _>((
+            &value.user_certificate,
+            (&value.revocation_date, &value.crl_entry_extensions),
+        ))
+    }
 }

@@ -2,7 +2,7 @@
 //!
 //! Split off only to keep the proofs small; it isn't a type of RFC 5280. What the whole requires of these parts is proved here once, and not
 //! for each part before them.
-ghost use Rattle.std.specs.Prelude.{◌≡◌, refl};
+ghost use Rattle.std.specs.Prelude.{◌≡◌, ◌↔◌, IsTrue, refl};
 ghost use Rattle.std.proofs.Common.{arith};
 ghost use Rattle.yasna_notation.specs.Making.{part, optional_part, in_explicit, in_implicit};
 ghost use Rattle.yasna_notation.specs.Parts.{no_parts};
@@ -19,6 +19,7 @@ use crate::tbs_certificate::TbsCertificate;
 use crate::validity::Validity;
 use yasna::{ASN1Result, BERMode, BERReaderSeq, DERWriterSeq, PrependBuffer};
 use yasna_notation::{BitString, Context, Explicit, Implicit, Optional, Parts, PartsBy};
+use yasna_notation_validity::CheckedBy;
 
 type IssuerUniqueId = Optional<Implicit<Context<1>, BitString>>;
 
@@ -161,5 +162,32 @@ impl<'a> PartsBy<&'a TbsCertificate> for SubjectParts {
             ),
         );
         SubjectPartsList::each_len(&fields, mode)
+    }
+}
+
+impl<'a> CheckedBy<&'a TbsCertificate> for SubjectParts {
+    type Held = SubjectFields;
+
+    ghost held = { λ r. (r.now.validity, (r.now.subject, (r.now.subject_public_key_info, (r.now.issuer_unique_id, (r.now.subject_unique_id, (r.now.extensions, tt)))))) };
+
+    ghost can_by = { ⟦<SubjectPartsList as Parts>⟧.can };
+
+    #[inline(always)]
+    fn accept_each(certificate: &&'a TbsCertificate) -> bool {
+        let ends = (
+            &certificate.issuer_unique_id,
+            (
+                &certificate.subject_unique_id,
+                (&certificate.extensions, ()),
+            ),
+        );
+        let fields = (
+            &certificate.validity,
+            (
+                &certificate.subject,
+                (&certificate.subject_public_key_info, ends),
+            ),
+        );
+        SubjectPartsList::accept_each(&fields)
     }
 }

@@ -10,7 +10,7 @@
 //!     revokedCertificates  SEQUENCE OF SEQUENCE { .. } OPTIONAL,
 //!     crlExtensions        [0] EXPLICIT Extensions OPTIONAL }
 //! ```
-ghost use Rattle.std.specs.Prelude.{◌≡◌, refl};
+ghost use Rattle.std.specs.Prelude.{◌≡◌, ◌↔◌, IsTrue, refl};
 ghost use Rattle.yasna_notation.specs.Laws.{represented_lawful, element_non_empty};
 ghost use Rattle.yasna_notation.specs.Making.{in_sequence, in_sequence_of, part, optional_part, in_explicit, exactly, in_bound};
 ghost use Rattle.yasna_notation.specs.Notation.{represented_by};
@@ -35,6 +35,7 @@ use yasna_notation::{
     Bounded, Context, Exactly, Explicit, Message, Notation, Optional, Represents, Sequence,
     SequenceOf, read_as,
 };
+use yasna_notation_validity::{Checked, accepts_fields};
 
 type Revoked = Optional<SequenceOf<RevokedCertificate>>;
 
@@ -170,4 +171,20 @@ impl Notation for TbsCertList {
 
 impl Message for TbsCertList {
     ghost is_unambiguous = { refl };
+}
+
+impl Checked for TbsCertList {
+    fn accepts(value: &TbsCertList) -> bool {
+        let ends = (
+            &value.next_update,
+            (&value.revoked_certificates, (&value.crl_extensions, ())),
+        );
+        accepts_fields::<Parts, _>((
+            &value.version,
+            (
+                &value.signature,
+                (&value.issuer, (&value.this_update, ends)),
+            ),
+        ))
+    }
 }

@@ -19,7 +19,7 @@
 //!
 //! UniqueIdentifier ::= BIT STRING
 //! ```
-ghost use Rattle.std.specs.Prelude.{◌≡◌, nat_eq, refl};
+ghost use Rattle.std.specs.Prelude.{◌≡◌, ◌↔◌, IsTrue, nat_eq, refl};
 ghost use Rattle.yasna_notation.specs.Laws.{represented_lawful, element_non_empty};
 ghost use Rattle.yasna_notation.specs.Making.{in_sequence, part, default_part, in_explicit, at_most};
 ghost use Rattle.yasna_notation.specs.Notation.{represented_by};
@@ -43,6 +43,7 @@ use yasna_notation::{
     AtMost, BigInteger, Bounded, Context, Default, Explicit, Message, Notation, Number, Represents,
     Sequence,
 };
+use yasna_notation_validity::{Checked, accepts_fields};
 
 type Version = Default<Explicit<Context<0>, Bounded<u64, AtMost<2>>>, Number<0>>;
 
@@ -176,4 +177,16 @@ impl Notation for TbsCertificate {
 
 impl Message for TbsCertificate {
     ghost is_unambiguous = { refl };
+}
+
+impl Checked for TbsCertificate {
+    fn accepts(value: &TbsCertificate) -> bool {
+        accepts_fields::<Parts, _>((
+            &value.version,
+            (
+                &value.serial_number,
+                (&value.signature, (&value.issuer, value)),
+            ),
+        ))
+    }
 }

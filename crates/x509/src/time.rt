@@ -1,11 +1,12 @@
 //! Times (RFC 5280, 4.1.2.5).
-ghost use Rattle.std.specs.Prelude.{◌≡◌, refl};
+ghost use Rattle.std.specs.Prelude.{◌≡◌, ◌↔◌, IsTrue, refl};
 ghost use Rattle.yasna_notation.specs.declared.choices.Either.TheVariants.{First, Second};
 ghost use Rattle.x509.specs.declared.time.Time.TheVariants.{Utc, General};
 
 use yasna::models::{GeneralizedTime, UTCTime};
 use yasna::{ASN1Result, BERMode, DERWriter, PrependBuffer, Tag};
 use yasna_notation::{Choice, DefinedType, Either, Notation, Sequence};
+use yasna_notation_validity::{Checked, CheckedType};
 
 /// A time.
 #[derive(Drop)]
@@ -48,4 +49,13 @@ impl DefinedType for Time {
     }
 
     ghost unambiguous = { refl };
+}
+
+impl CheckedType for Time {
+    fn accepts_value(&self) -> bool {
+        match self {
+            Time::Utc(time) => UTCTime::accepts(time),
+            Time::General(time) => GeneralizedTime::accepts(time),
+        }
+    }
 }

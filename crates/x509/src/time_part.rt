@@ -1,7 +1,7 @@
 //! A time as a part of another type.
 //!
 //! It is `Time`'s own notation by one name, so a type that holds times names it, and not what a time is made of.
-ghost use Rattle.std.specs.Prelude.{◌≡◌, refl};
+ghost use Rattle.std.specs.Prelude.{◌≡◌, ◌↔◌, IsTrue, refl};
 ghost use Rattle.yasna_notation.specs.Laws.{represented_lawful};
 ghost use Rattle.yasna_notation.specs.Making.{in_choice, alternative, alternative_non_empty};
 ghost use Rattle.yasna_notation.specs.contracts.times.UTCTimeNotation.TheImpl.Laws.{lawful-law as utc, non_empty-law as utc_non_empty};
@@ -11,6 +11,7 @@ use crate::time::Time;
 use yasna::models::{GeneralizedTime, UTCTime};
 use yasna::{ASN1Result, BERMode, BERReader, DERWriter, PrependBuffer, Tag};
 use yasna_notation::{Choice, DefinedType, Notation};
+use yasna_notation_validity::Checked;
 
 /// The notation of a part whose value is a `Time`.
 pub struct TimePart;
@@ -51,4 +52,11 @@ impl Notation for TimePart {
         (in_choice ⟦<Choice<(UTCTime, (GeneralizedTime,))> as Notation>⟧.means.encoding_under (alternative (utc refl).own refl (general refl).own)) };
 
     ghost non_empty = { λ u m v. alternative_non_empty (utc_non_empty u) (general_non_empty u) m (⟦<Time as DefinedType>⟧.value_of v) };
+}
+
+impl Checked for TimePart {
+    #[inline(always)]
+    fn accepts(value: &Time) -> bool {
+        <Time as Checked>::accepts(value)
+    }
 }

@@ -3,7 +3,7 @@
 //! ```text
 //! Validity ::= SEQUENCE { notBefore Time, notAfter Time }
 //! ```
-ghost use Rattle.std.specs.Prelude.{◌≡◌, refl};
+ghost use Rattle.std.specs.Prelude.{◌≡◌, ◌↔◌, IsTrue, refl};
 ghost use Rattle.yasna_notation.specs.Laws.{represented_lawful, element_non_empty};
 ghost use Rattle.yasna_notation.specs.Making.{in_sequence, part};
 ghost use Rattle.yasna_notation.specs.Notation.{represented_by};
@@ -15,6 +15,7 @@ use crate::time_part::TimePart;
 use yasna::tags::TAG_SEQUENCE;
 use yasna::{ASN1Result, BERMode, BERReader, DERWriter, PrependBuffer, Tag};
 use yasna_notation::{Message, Notation, Represents, Sequence, read_as};
+use yasna_notation_validity::{Checked, accepts_fields};
 
 type Parts = (TimePart, (TimePart, ()));
 
@@ -73,4 +74,10 @@ impl Notation for Validity {
 
 impl Message for Validity {
     ghost is_unambiguous = { refl };
+}
+
+impl Checked for Validity {
+    fn accepts(value: &Validity) -> bool {
+        accepts_fields::<Parts, _>((&value.not_before, (&value.not_after, ())))
+    }
 }
