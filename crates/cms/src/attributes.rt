@@ -7,7 +7,7 @@
 //!
 //! UnprotectedAttributes ::= SET SIZE (1..MAX) OF Attribute
 //! ```
-ghost use Rattle.std.specs.Prelude.{◌≡◌, refl};
+ghost use Rattle.std.specs.Prelude.{◌≡◌, ◌↔◌, IsTrue, refl};
 ghost use Rattle.yasna_notation.specs.Laws.{represented_lawful, element_non_empty};
 ghost use Rattle.yasna_notation.specs.Making.{in_set_of, set_not_empty};
 ghost use Rattle.yasna_notation.specs.Notation.{represented_by};
@@ -17,6 +17,7 @@ use x509::Attribute;
 use yasna::tags::TAG_SET;
 use yasna::{ASN1Result, BERMode, BERReader, DERWriter, PrependBuffer, Tag};
 use yasna_notation::{Bounded, Message, NotEmpty, Notation, Represents, SetOf, read_as};
+use yasna_notation_validity::Checked;
 
 type Set = Bounded<SetOf<Attribute>, NotEmpty>;
 
@@ -70,4 +71,10 @@ impl Notation for Attributes {
 
 impl Message for Attributes {
     ghost is_unambiguous = { refl };
+}
+
+impl Checked for Attributes {
+    fn accepts(value: &Attributes) -> bool {
+        Set::accepts(&value.attributes)
+    }
 }

@@ -14,7 +14,7 @@
 //! ```
 //!
 //! Those of the other formats are SEQUENCEs too. Their parts are kept as they came.
-ghost use Rattle.std.specs.Prelude.{◌≡◌, refl};
+ghost use Rattle.std.specs.Prelude.{◌≡◌, ◌↔◌, IsTrue, refl};
 ghost use Rattle.std.proofs.Common.{arith};
 ghost use Rattle.yasna_notation.specs.Choices.{either_non_empty};
 ghost use Rattle.yasna_notation.specs.Laws.{represented_lawful, element_non_empty};
@@ -34,6 +34,7 @@ use yasna_notation::{
     Alternatives, Choice, Context, Either, Implicit, Message, Notation, Represents, SequenceOf,
     read_as,
 };
+use yasna_notation_validity::Checked;
 
 type Extended = Implicit<Context<0>, SequenceOf<TaggedDerValue>>;
 
@@ -169,4 +170,16 @@ impl Notation for CertificateChoices {
 
 impl Message for CertificateChoices {
     ghost is_unambiguous = { refl };
+}
+
+impl Checked for CertificateChoices {
+    fn accepts(value: &CertificateChoices) -> bool {
+        match value {
+            CertificateChoices::Certificate(certificate) => Certificate::accepts(certificate),
+            CertificateChoices::ExtendedCertificate(parts) => Extended::accepts(parts),
+            CertificateChoices::V1AttrCert(parts) => V1::accepts(parts),
+            CertificateChoices::V2AttrCert(parts) => V2::accepts(parts),
+            CertificateChoices::Other(parts) => OtherFormat::accepts(parts),
+        }
+    }
 }

@@ -7,7 +7,7 @@
 //!
 //! ContentType ::= OBJECT IDENTIFIER
 //! ```
-ghost use Rattle.std.specs.Prelude.{◌≡◌, refl};
+ghost use Rattle.std.specs.Prelude.{◌≡◌, ◌↔◌, IsTrue, refl};
 ghost use Rattle.std.proofs.Common.{arith};
 ghost use Rattle.yasna_notation.specs.Laws.{represented_lawful, element_non_empty};
 ghost use Rattle.yasna_notation.specs.Making.{in_sequence, part, in_explicit};
@@ -20,6 +20,7 @@ use yasna::models::{ObjectIdentifier, TaggedDerValue};
 use yasna::tags::TAG_SEQUENCE;
 use yasna::{ASN1Result, BERMode, BERReader, DERWriter, PrependBuffer, Tag};
 use yasna_notation::{Context, Explicit, Message, Notation, Represents, Sequence, read_as};
+use yasna_notation_validity::{Checked, accepts_fields};
 
 type Content = Explicit<Context<0>, TaggedDerValue>;
 
@@ -80,4 +81,10 @@ impl Notation for ContentInfo {
 
 impl Message for ContentInfo {
     ghost is_unambiguous = { refl };
+}
+
+impl Checked for ContentInfo {
+    fn accepts(value: &ContentInfo) -> bool {
+        accepts_fields::<Parts, _>((&value.content_type, (&value.content, ())))
+    }
 }

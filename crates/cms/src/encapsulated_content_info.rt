@@ -7,7 +7,7 @@
 //!
 //! ContentType ::= OBJECT IDENTIFIER
 //! ```
-ghost use Rattle.std.specs.Prelude.{◌≡◌, refl};
+ghost use Rattle.std.specs.Prelude.{◌≡◌, ◌↔◌, IsTrue, refl};
 ghost use Rattle.std.proofs.Common.{arith};
 ghost use Rattle.yasna_notation.specs.Laws.{represented_lawful, element_non_empty};
 ghost use Rattle.yasna_notation.specs.Making.{in_sequence, part, optional_part, in_explicit};
@@ -22,6 +22,7 @@ use yasna::{ASN1Result, BERMode, BERReader, DERWriter, PrependBuffer, Tag};
 use yasna_notation::{
     Context, Explicit, Message, Notation, Optional, Represents, Sequence, read_as,
 };
+use yasna_notation_validity::{Checked, accepts_fields};
 
 type EContent = Optional<Explicit<Context<0>, Vec<u8>>>;
 
@@ -94,4 +95,10 @@ impl Notation for EncapsulatedContentInfo {
 
 impl Message for EncapsulatedContentInfo {
     ghost is_unambiguous = { refl };
+}
+
+impl Checked for EncapsulatedContentInfo {
+    fn accepts(value: &EncapsulatedContentInfo) -> bool {
+        accepts_fields::<Parts, _>((&value.e_content_type, (&value.e_content, ())))
+    }
 }

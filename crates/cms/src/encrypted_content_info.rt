@@ -12,7 +12,7 @@
 //!
 //! EncryptedContent ::= OCTET STRING
 //! ```
-ghost use Rattle.std.specs.Prelude.{◌≡◌, refl};
+ghost use Rattle.std.specs.Prelude.{◌≡◌, ◌↔◌, IsTrue, refl};
 ghost use Rattle.std.proofs.Common.{arith};
 ghost use Rattle.yasna_notation.specs.Laws.{represented_lawful, element_non_empty};
 ghost use Rattle.yasna_notation.specs.Making.{in_sequence, part, optional_part, in_implicit};
@@ -29,6 +29,7 @@ use yasna::{ASN1Result, BERMode, BERReader, DERWriter, PrependBuffer, Tag};
 use yasna_notation::{
     Context, Implicit, Message, Notation, Optional, Represents, Sequence, read_as,
 };
+use yasna_notation_validity::{Checked, accepts_fields};
 
 type EncryptedContent = Optional<Implicit<Context<0>, Vec<u8>>>;
 
@@ -136,4 +137,16 @@ impl Notation for EncryptedContentInfo {
 
 impl Message for EncryptedContentInfo {
     ghost is_unambiguous = { refl };
+}
+
+impl Checked for EncryptedContentInfo {
+    fn accepts(value: &EncryptedContentInfo) -> bool {
+        accepts_fields::<Parts, _>((
+            &value.content_type,
+            (
+                &value.content_encryption_algorithm,
+                (&value.encrypted_content, ()),
+            ),
+        ))
+    }
 }

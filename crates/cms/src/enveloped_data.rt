@@ -14,7 +14,7 @@
 //! ```
 //!
 //! An OriginatorInfo is a SEQUENCE. Its parts are kept as they came, and so is each RecipientInfo.
-ghost use Rattle.std.specs.Prelude.{◌≡◌, refl};
+ghost use Rattle.std.specs.Prelude.{◌≡◌, ◌↔◌, IsTrue, refl};
 ghost use Rattle.std.proofs.Common.{arith};
 ghost use Rattle.yasna_notation.specs.Laws.{represented_lawful, element_non_empty};
 ghost use Rattle.yasna_notation.specs.Making.{in_sequence, in_sequence_of, in_set_of, part, optional_part, in_implicit, at_most, set_not_empty};
@@ -34,6 +34,7 @@ use yasna_notation::{
     AtMost, Bounded, Context, Implicit, Message, NotEmpty, Notation, Optional, Represents,
     Sequence, SequenceOf, SetOf, read_as,
 };
+use yasna_notation_validity::{Checked, accepts_fields};
 
 type Version = Bounded<u64, AtMost<5>>;
 
@@ -176,4 +177,22 @@ impl Notation for EnvelopedData {
 
 impl Message for EnvelopedData {
     ghost is_unambiguous = { refl };
+}
+
+impl Checked for EnvelopedData {
+    fn accepts(value: &EnvelopedData) -> bool {
+        accepts_fields::<Parts, _>((
+            &value.version,
+            (
+                &value.originator_info,
+                (
+                    &value.recipient_infos,
+                    (
+                        &value.encrypted_content_info,
+                        (&value.unprotected_attrs, ()),
+                    ),
+                ),
+            ),
+        ))
+    }
 }

@@ -7,7 +7,7 @@
 //!
 //! CertificateSerialNumber ::= INTEGER
 //! ```
-ghost use Rattle.std.specs.Prelude.{◌≡◌, refl};
+ghost use Rattle.std.specs.Prelude.{◌≡◌, ◌↔◌, IsTrue, refl};
 ghost use Rattle.yasna_notation.specs.Laws.{represented_lawful, element_non_empty};
 ghost use Rattle.yasna_notation.specs.Making.{in_sequence, part};
 ghost use Rattle.yasna_notation.specs.Notation.{represented_by};
@@ -19,6 +19,7 @@ use x509::Name;
 use yasna::tags::TAG_SEQUENCE;
 use yasna::{ASN1Result, BERMode, BERReader, DERWriter, PrependBuffer, Tag};
 use yasna_notation::{BigInteger, Message, Notation, Represents, Sequence, read_as};
+use yasna_notation_validity::{Checked, accepts_fields};
 
 type Parts = (Name, (BigInteger, ()));
 
@@ -86,4 +87,10 @@ impl Notation for IssuerAndSerialNumber {
 
 impl Message for IssuerAndSerialNumber {
     ghost is_unambiguous = { refl };
+}
+
+impl Checked for IssuerAndSerialNumber {
+    fn accepts(value: &IssuerAndSerialNumber) -> bool {
+        accepts_fields::<Parts, _>((&value.issuer, (&value.serial_number, ())))
+    }
 }

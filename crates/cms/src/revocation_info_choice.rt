@@ -11,7 +11,7 @@
 //! ```
 //!
 //! The parts of one of another format are kept as they came.
-ghost use Rattle.std.specs.Prelude.{◌≡◌, refl};
+ghost use Rattle.std.specs.Prelude.{◌≡◌, ◌↔◌, IsTrue, refl};
 ghost use Rattle.std.proofs.Common.{arith};
 ghost use Rattle.yasna_notation.specs.Choices.{either_non_empty};
 ghost use Rattle.yasna_notation.specs.Laws.{represented_lawful, element_non_empty};
@@ -29,6 +29,7 @@ use yasna_notation::{
     Alternatives, Choice, Context, Either, Implicit, Message, Notation, Represents, SequenceOf,
     read_as,
 };
+use yasna_notation_validity::Checked;
 
 type OtherFormat = Implicit<Context<1>, SequenceOf<TaggedDerValue>>;
 
@@ -113,4 +114,13 @@ impl Notation for RevocationInfoChoice {
 
 impl Message for RevocationInfoChoice {
     ghost is_unambiguous = { refl };
+}
+
+impl Checked for RevocationInfoChoice {
+    fn accepts(value: &RevocationInfoChoice) -> bool {
+        match value {
+            RevocationInfoChoice::Crl(list) => CertificateList::accepts(list),
+            RevocationInfoChoice::Other(parts) => OtherFormat::accepts(parts),
+        }
+    }
 }

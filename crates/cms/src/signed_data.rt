@@ -19,7 +19,7 @@
 //!
 //! SignerInfos ::= SET OF SignerInfo
 //! ```
-ghost use Rattle.std.specs.Prelude.{◌≡◌, refl};
+ghost use Rattle.std.specs.Prelude.{◌≡◌, ◌↔◌, IsTrue, refl};
 ghost use Rattle.std.proofs.Common.{arith};
 ghost use Rattle.yasna_notation.specs.Laws.{represented_lawful, element_non_empty};
 ghost use Rattle.yasna_notation.specs.Making.{in_sequence, in_set_of, part, optional_part, in_implicit, at_most};
@@ -43,6 +43,7 @@ use yasna_notation::{
     AtMost, Bounded, Context, Implicit, Message, Notation, Optional, Represents, Sequence, SetOf,
     read_as,
 };
+use yasna_notation_validity::{Checked, accepts_fields};
 
 type Version = Bounded<u64, AtMost<5>>;
 
@@ -172,4 +173,17 @@ impl Notation for SignedData {
 
 impl Message for SignedData {
     ghost is_unambiguous = { refl };
+}
+
+impl Checked for SignedData {
+    fn accepts(value: &SignedData) -> bool {
+        let ends = (
+            &value.certificates,
+            (&value.crls, (&value.signer_infos, ())),
+        );
+        accepts_fields::<Parts, _>((
+            &value.version,
+            (&value.digest_algorithms, (&value.encap_content_info, ends)),
+        ))
+    }
 }

@@ -7,7 +7,7 @@
 //!
 //! SubjectKeyIdentifier ::= OCTET STRING
 //! ```
-ghost use Rattle.std.specs.Prelude.{◌≡◌, refl};
+ghost use Rattle.std.specs.Prelude.{◌≡◌, ◌↔◌, IsTrue, refl};
 ghost use Rattle.std.proofs.Common.{arith};
 ghost use Rattle.yasna_notation.specs.Choices.{either_non_empty};
 ghost use Rattle.yasna_notation.specs.Laws.{represented_lawful, element_non_empty, octets_non_empty};
@@ -23,6 +23,7 @@ use yasna::{ASN1Result, BERMode, BERReader, DERWriter, PrependBuffer, Tag};
 use yasna_notation::{
     Alternatives, Choice, Context, Either, Implicit, Message, Notation, Represents, read_as,
 };
+use yasna_notation_validity::Checked;
 
 type KeyIdentifier = Implicit<Context<0>, Vec<u8>>;
 
@@ -104,4 +105,15 @@ impl Notation for SignerIdentifier {
 
 impl Message for SignerIdentifier {
     ghost is_unambiguous = { refl };
+}
+
+impl Checked for SignerIdentifier {
+    fn accepts(value: &SignerIdentifier) -> bool {
+        match value {
+            SignerIdentifier::IssuerAndSerialNumber(certificate) => IssuerAndSerialNumber::accepts(
+                certificate,
+            ),
+            SignerIdentifier::SubjectKeyIdentifier(key) => KeyIdentifier::accepts(key),
+        }
+    }
 }

@@ -18,7 +18,7 @@
 //!
 //! SignatureValue ::= OCTET STRING
 //! ```
-ghost use Rattle.std.specs.Prelude.{◌≡◌, refl};
+ghost use Rattle.std.specs.Prelude.{◌≡◌, ◌↔◌, IsTrue, refl};
 ghost use Rattle.std.proofs.Common.{arith};
 ghost use Rattle.yasna_notation.specs.Laws.{represented_lawful, element_non_empty};
 ghost use Rattle.yasna_notation.specs.Making.{in_sequence, part, optional_part, in_implicit, at_most};
@@ -38,6 +38,7 @@ use yasna::{ASN1Result, BERMode, BERReader, DERWriter, PrependBuffer, Tag};
 use yasna_notation::{
     AtMost, Bounded, Context, Implicit, Message, Notation, Optional, Represents, Sequence, read_as,
 };
+use yasna_notation_validity::{Checked, accepts_fields};
 
 type Version = Bounded<u64, AtMost<5>>;
 
@@ -175,4 +176,20 @@ impl Notation for SignerInfo {
 
 impl Message for SignerInfo {
     ghost is_unambiguous = { refl };
+}
+
+impl Checked for SignerInfo {
+    fn accepts(value: &SignerInfo) -> bool {
+        let ends = (
+            &value.signature_algorithm,
+            (&value.signature, (&value.unsigned_attrs, ())),
+        );
+        accepts_fields::<Parts, _>((
+            &value.version,
+            (
+                &value.sid,
+                (&value.digest_algorithm, (&value.signed_attrs, ends)),
+            ),
+        ))
+    }
 }

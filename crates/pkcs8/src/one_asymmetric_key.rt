@@ -23,7 +23,7 @@
 //!
 //! The notation doesn't require v2 with a public key, and v1 without one. Elements after the public key, or in place of it, that this
 //! version doesn't know are read as they came, and are written again.
-ghost use Rattle.std.specs.Prelude.{◌≡◌, ◌∷◌, [], refl};
+ghost use Rattle.std.specs.Prelude.{◌≡◌, ◌∷◌, ◌↔◌, IsTrue, [], refl};
 ghost use Rattle.std.proofs.Common.{arith};
 ghost use Rattle.yasna_notation.specs.Laws.{represented_lawful, element_non_empty};
 ghost use Rattle.yasna_notation.specs.Making.{context, in_sequence, in_set_of, part, in_implicit, at_most};
@@ -46,6 +46,7 @@ use yasna_notation::{
     SetOf, read_as,
 };
 use yasna_notation_types::{Others, Possible};
+use yasna_notation_validity::{Checked, accepts_fields};
 
 type Version = Bounded<u64, AtMost<1>>;
 
@@ -181,4 +182,19 @@ impl Notation for OneAsymmetricKey {
 
 impl Message for OneAsymmetricKey {
     ghost is_unambiguous = { refl };
+}
+
+impl Checked for OneAsymmetricKey {
+    fn accepts(value: &OneAsymmetricKey) -> bool {
+        accepts_fields::<Parts, _>((
+            &value.version,
+            (
+                &value.private_key_algorithm,
+                (
+                    &value.private_key,
+                    (&value.attributes, (&value.public_key, &value.unknown)),
+                ),
+            ),
+        ))
+    }
 }

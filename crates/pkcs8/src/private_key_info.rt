@@ -11,7 +11,7 @@
 //!
 //! Attributes ::= SET OF Attribute
 //! ```
-ghost use Rattle.std.specs.Prelude.{◌≡◌, refl};
+ghost use Rattle.std.specs.Prelude.{◌≡◌, ◌↔◌, IsTrue, refl};
 ghost use Rattle.std.proofs.Common.{arith};
 ghost use Rattle.yasna_notation.specs.Laws.{represented_lawful, element_non_empty};
 ghost use Rattle.yasna_notation.specs.Making.{in_sequence, in_set_of, part, optional_part, in_implicit, at_most};
@@ -29,6 +29,7 @@ use yasna_notation::{
     AtMost, Bounded, Context, Implicit, Message, Notation, Optional, Represents, Sequence, SetOf,
     read_as,
 };
+use yasna_notation_validity::{Checked, accepts_fields};
 
 type Version = Bounded<u64, AtMost<0>>;
 
@@ -137,4 +138,16 @@ impl Notation for PrivateKeyInfo {
 
 impl Message for PrivateKeyInfo {
     ghost is_unambiguous = { refl };
+}
+
+impl Checked for PrivateKeyInfo {
+    fn accepts(value: &PrivateKeyInfo) -> bool {
+        accepts_fields::<Parts, _>((
+            &value.version,
+            (
+                &value.private_key_algorithm,
+                (&value.private_key, (&value.attributes, ())),
+            ),
+        ))
+    }
 }
