@@ -1,5 +1,5 @@
 //! BMPString, as `yasna` reads it: a text in UTF-16 (X.690, 8.23.8).
-ghost use Rattle.std.specs.Prelude.{◌≡◌, ◌∷◌, [], not, nat_eq, true};
+ghost use Rattle.std.specs.Prelude.{◌≡◌, ◌↔◌, ◌∷◌, [], IsTrue, not, nat_eq, true};
 ghost use Rattle.std.specs.List.{list_all};
 ghost use Rattle.std.specs.Str.{chars};
 ghost use Rattle.std.proofs.Common.{arith};
@@ -16,6 +16,7 @@ ghost use Rattle.yasna_notation_tags.specs.Bmp.{EncodesBmp, is_known, has_known,
 use yasna_base::tags::TAG_BMPSTRING;
 use yasna_base::{ASN1Error, ASN1ErrorKind, ASN1Result, Tag};
 use yasna_notation::{CanonicalNotation, Notation};
+use yasna_notation_validity::Checked;
 use yasna_reader::BERReader;
 use yasna_writer::DERWriter;
 
@@ -69,6 +70,13 @@ impl Notation for BmpString {
 
 impl CanonicalNotation for BmpString {
     ghost written = { λ _. element_written bmp_tag bmp_under (not_end 30 (λ e. omega arith)) (omega arith) };
+}
+
+impl Checked for BmpString {
+    #[inline(always)]
+    fn accepts(value: &String) -> bool {
+        is_known(value.as_str())
+    }
 }
 
 // Whether no character of a text is U+FFFD.
