@@ -17,7 +17,7 @@
 //! Opaque     ::= [APPLICATION 4] IMPLICIT OCTET STRING
 //! Counter64  ::= [APPLICATION 6] IMPLICIT INTEGER (0..18446744073709551615)
 //! ```
-ghost use Rattle.std.specs.Prelude.{◌≡◌, Some, refl};
+ghost use Rattle.std.specs.Prelude.{◌≡◌, ◌↔◌, IsTrue, Some, refl};
 ghost use Rattle.std.proofs.Common.{arith};
 ghost use Rattle.yasna_notation.specs.Canonical.{represented_written, choice_written_as};
 ghost use Rattle.yasna_notation.specs.Laws.{represented_lawful};
@@ -40,6 +40,7 @@ use yasna_notation::{
     Alternatives, Application, Bounded, CanonicalNotation, Choice, Either, Implicit, Message,
     Notation, Represents, Size, read_as,
 };
+use yasna_notation_validity::Checked;
 
 type IpAddress = Implicit<Application<0>, Bounded<Vec<u8>, Size<4>>>;
 
@@ -206,4 +207,17 @@ impl CanonicalNotation for ApplicationSyntax {
         (alternative_written (under_application 4 (omega arith) (octets_written refl)).own
         (alternative_written (under_application 6 (omega arith) (count64_written refl)).own
         (under_application 2 (omega arith) (count32_written refl)).own)))))) };
+}
+
+impl Checked for ApplicationSyntax {
+    fn accepts(value: &ApplicationSyntax) -> bool {
+        match value {
+            ApplicationSyntax::IpAddressValue(value) => IpAddress::accepts(value),
+            ApplicationSyntax::CounterValue(value) => Counter32::accepts(value),
+            ApplicationSyntax::TimeTicksValue(value) => TimeTicks::accepts(value),
+            ApplicationSyntax::ArbitraryValue(value) => Opaque::accepts(value),
+            ApplicationSyntax::BigCounterValue(value) => Counter64::accepts(value),
+            ApplicationSyntax::UnsignedIntegerValue(value) => Unsigned32::accepts(value),
+        }
+    }
 }

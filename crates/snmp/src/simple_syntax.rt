@@ -6,7 +6,7 @@
 //!     string-value    OCTET STRING (SIZE (0..65535)),
 //!     objectID-value  OBJECT IDENTIFIER }
 //! ```
-ghost use Rattle.std.specs.Prelude.{◌≡◌, nat_lt, not, refl};
+ghost use Rattle.std.specs.Prelude.{◌≡◌, ◌↔◌, IsTrue, nat_lt, not, refl};
 ghost use Rattle.yasna_notation.specs.Canonical.{represented_written, choice_written_as};
 ghost use Rattle.yasna_notation.specs.Laws.{represented_lawful};
 ghost use Rattle.yasna_notation.specs.Making.{alternative, alternative_non_empty, in_choice, octets_sized};
@@ -28,6 +28,7 @@ use yasna_notation::{
     Alternatives, Bounded, CanonicalNotation, Choice, Either, Message, Notation, Represents,
     SizeAtMost, read_as,
 };
+use yasna_notation_validity::Checked;
 
 type StringNotation = Bounded<Vec<u8>, SizeAtMost<65535>>;
 
@@ -129,4 +130,14 @@ impl CanonicalNotation for SimpleSyntax {
     ghost written = { λ _. represented_written ⟦<SimpleSyntax as Represents<Sides>>⟧.value_of (choice_written_as ⟦<Choice<Types> as Notation>⟧.means.encoding_under
         (alternative_written (int32_written refl).own
         (alternative_written (octets_sized_written (λ k. not (nat_lt 65535 k)) (octets_written refl)).own (oid_written refl).own))) };
+}
+
+impl Checked for SimpleSyntax {
+    fn accepts(value: &SimpleSyntax) -> bool {
+        match value {
+            SimpleSyntax::IntegerValue(value) => <i32 as Checked>::accepts(value),
+            SimpleSyntax::StringValue(value) => StringNotation::accepts(value),
+            SimpleSyntax::ObjectIdValue(value) => ObjectIdentifier::accepts(value),
+        }
+    }
 }

@@ -6,11 +6,12 @@
 //! ```
 //!
 //! The names of an INTEGER's numbers restrict no value (X.680, 19), so any number of 64 bits is read.
-ghost use Rattle.std.specs.Prelude.{◌≡◌, refl};
+ghost use Rattle.std.specs.Prelude.{◌≡◌, ◌↔◌, IsTrue, refl};
 ghost use Rattle.snmp.specs.V1Errors.{error_number};
 
 use yasna::{ASN1Result, BERMode, DERWriter, PrependBuffer, Tag};
 use yasna_notation::{DefinedType, Notation};
+use yasna_notation_validity::{Checked, CheckedType};
 
 /// What became of a request.
 #[derive(Clone, Copy, Debug, PartialEq, Eq)]
@@ -74,4 +75,10 @@ impl DefinedType for ErrorStatus {
     }
 
     ghost unambiguous = { refl };
+}
+
+impl CheckedType for ErrorStatus {
+    fn accepts_value(&self) -> bool {
+        <i64 as Checked>::accepts(&self.number())
+    }
 }

@@ -7,11 +7,12 @@
 //! ```
 //!
 //! The names of an INTEGER's numbers restrict no value (X.680, 19), so any number of 64 bits is read.
-ghost use Rattle.std.specs.Prelude.{◌≡◌, refl};
+ghost use Rattle.std.specs.Prelude.{◌≡◌, ◌↔◌, IsTrue, refl};
 ghost use Rattle.snmp.specs.Traps.{trap_number};
 
 use yasna::{ASN1Result, BERMode, DERWriter, PrependBuffer, Tag};
 use yasna_notation::{DefinedType, Notation};
+use yasna_notation_validity::{Checked, CheckedType};
 
 /// A kind of trap.
 #[derive(Clone, Copy, Debug, PartialEq, Eq)]
@@ -77,4 +78,10 @@ impl DefinedType for GenericTrap {
     }
 
     ghost unambiguous = { refl };
+}
+
+impl CheckedType for GenericTrap {
+    fn accepts_value(&self) -> bool {
+        <i64 as Checked>::accepts(&self.number())
+    }
 }

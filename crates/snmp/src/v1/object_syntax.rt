@@ -18,7 +18,7 @@
 //! ```
 //!
 //! A number that 64 bits don't hold is rejected.
-ghost use Rattle.std.specs.Prelude.{◌≡◌, Some, refl};
+ghost use Rattle.std.specs.Prelude.{◌≡◌, ◌↔◌, IsTrue, Some, refl};
 ghost use Rattle.std.proofs.Common.{arith};
 ghost use Rattle.yasna_notation.specs.Canonical.{represented_written, choice_written_as};
 ghost use Rattle.yasna_notation.specs.Laws.{represented_lawful};
@@ -46,6 +46,7 @@ use yasna_notation::{
     Alternatives, Application, Bounded, CanonicalNotation, Choice, Either, Implicit, Message,
     Notation, Represents, Size, read_as,
 };
+use yasna_notation_validity::Checked;
 
 type NetworkAddress = Implicit<Application<0>, Bounded<Vec<u8>, Size<4>>>;
 
@@ -224,4 +225,20 @@ impl CanonicalNotation for ObjectSyntax {
         (alternative_written (under_application 2 (omega arith) (count32_written refl)).own
         (alternative_written (under_application 3 (omega arith) (count32_written refl)).own
         (under_application 4 (omega arith) (octets_written refl)).own))))))))) };
+}
+
+impl Checked for ObjectSyntax {
+    fn accepts(value: &ObjectSyntax) -> bool {
+        match value {
+            ObjectSyntax::Number(value) => <i64 as Checked>::accepts(value),
+            ObjectSyntax::String(value) => <Vec<u8> as Checked>::accepts(value),
+            ObjectSyntax::Object(value) => ObjectIdentifier::accepts(value),
+            ObjectSyntax::Empty => <() as Checked>::accepts(&()),
+            ObjectSyntax::Address(value) => NetworkAddress::accepts(value),
+            ObjectSyntax::Counter(value) => Counter::accepts(value),
+            ObjectSyntax::Gauge(value) => Gauge::accepts(value),
+            ObjectSyntax::Ticks(value) => TimeTicks::accepts(value),
+            ObjectSyntax::Arbitrary(value) => Opaque::accepts(value),
+        }
+    }
 }

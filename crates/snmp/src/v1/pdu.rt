@@ -9,7 +9,7 @@
 //!
 //! VarBindList ::= SEQUENCE OF VarBind
 //! ```
-ghost use Rattle.std.specs.Prelude.{◌≡◌, refl};
+ghost use Rattle.std.specs.Prelude.{◌≡◌, ◌↔◌, IsTrue, refl};
 ghost use Rattle.yasna_notation.specs.Canonical.{represented_written};
 ghost use Rattle.yasna_notation.specs.Laws.{represented_lawful, element_non_empty};
 ghost use Rattle.yasna_notation.specs.Making.{in_sequence, in_sequence_of, part};
@@ -28,6 +28,7 @@ use yasna::{ASN1Result, BERMode, BERReader, DERWriter, PrependBuffer, Tag};
 use yasna_notation::{
     CanonicalNotation, DefinedType, Message, Notation, Represents, Sequence, SequenceOf, read_as,
 };
+use yasna_notation_validity::{Checked, accepts_fields};
 
 type VarBindList = SequenceOf<VarBind>;
 
@@ -132,4 +133,16 @@ impl CanonicalNotation for Pdu {
         (part_written (int64_written refl).own (part_written (represented_written ⟦<ErrorStatus as DefinedType>⟧.value_of (int64_written refl)).own
         (part_written (int64_written refl).own
         (part_written (sequence_of_written (binding1_written refl).own).own no_part_written))))) };
+}
+
+impl Checked for Pdu {
+    fn accepts(value: &Pdu) -> bool {
+        accepts_fields::<Parts, _>((
+            &value.request_id,
+            (
+                &value.error_status,
+                (&value.error_index, (&value.variable_bindings, ())),
+            ),
+        ))
+    }
 }

@@ -8,7 +8,7 @@
 //!     set-request       [3] IMPLICIT PDU,
 //!     trap              [4] IMPLICIT Trap-PDU }
 //! ```
-ghost use Rattle.std.specs.Prelude.{◌≡◌, Some, refl};
+ghost use Rattle.std.specs.Prelude.{◌≡◌, ◌↔◌, IsTrue, Some, refl};
 ghost use Rattle.std.proofs.Common.{arith};
 ghost use Rattle.yasna_notation.specs.Canonical.{represented_written, choice_written_as};
 ghost use Rattle.yasna_notation.specs.Laws.{represented_lawful};
@@ -31,6 +31,7 @@ use yasna_notation::{
     Alternatives, CanonicalNotation, Choice, Context, Either, Implicit, Message, Notation,
     Represents, read_as,
 };
+use yasna_notation_validity::Checked;
 
 type GetRequestPdu = Implicit<Context<0>, Pdu>;
 
@@ -154,4 +155,16 @@ impl CanonicalNotation for Pdus {
         (alternative_written (under_context 1 (omega arith) (pdu1_written refl)).own
         (alternative_written (under_context 2 (omega arith) (pdu1_written refl)).own
         (alternative_written (under_context 3 (omega arith) (pdu1_written refl)).own (under_context 4 (omega arith) (trap_written refl)).own))))) };
+}
+
+impl Checked for Pdus {
+    fn accepts(value: &Pdus) -> bool {
+        match value {
+            Pdus::GetRequest(value) => GetRequestPdu::accepts(value),
+            Pdus::GetNextRequest(value) => GetNextRequestPdu::accepts(value),
+            Pdus::GetResponse(value) => GetResponsePdu::accepts(value),
+            Pdus::SetRequest(value) => SetRequestPdu::accepts(value),
+            Pdus::Trap(value) => Trap::accepts(value),
+        }
+    }
 }

@@ -9,7 +9,7 @@
 //!     time-stamp         TimeTicks,
 //!     variable-bindings  VarBindList }
 //! ```
-ghost use Rattle.std.specs.Prelude.{◌≡◌, refl};
+ghost use Rattle.std.specs.Prelude.{◌≡◌, ◌↔◌, IsTrue, refl};
 ghost use Rattle.std.proofs.Common.{arith};
 ghost use Rattle.yasna_notation.specs.Canonical.{represented_written};
 ghost use Rattle.yasna_notation.specs.Laws.{represented_lawful, element_non_empty};
@@ -37,6 +37,7 @@ use yasna_notation::{
     Application, Bounded, CanonicalNotation, DefinedType, Implicit, Message, Notation, Represents,
     Sequence, SequenceOf, Size, read_as,
 };
+use yasna_notation_validity::{Checked, accepts_fields};
 
 type NetworkAddress = Implicit<Application<0>, Bounded<Vec<u8>, Size<4>>>;
 
@@ -169,4 +170,17 @@ impl CanonicalNotation for TrapPdu {
         (part_written (represented_written ⟦<GenericTrap as DefinedType>⟧.value_of (int64_written refl)).own (part_written (int64_written refl).own
         (part_written (under_application 3 (omega arith) (count32_written refl)).own
         (part_written (sequence_of_written (binding1_written refl).own).own no_part_written))))))) };
+}
+
+impl Checked for TrapPdu {
+    fn accepts(value: &TrapPdu) -> bool {
+        let ends = (
+            &value.specific_trap,
+            (&value.time_stamp, (&value.variable_bindings, ())),
+        );
+        accepts_fields::<Parts, _>((
+            &value.enterprise,
+            (&value.agent_addr, (&value.generic_trap, ends)),
+        ))
+    }
 }

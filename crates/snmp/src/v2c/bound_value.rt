@@ -12,7 +12,7 @@
 //!     simple            SimpleSyntax,
 //!     application-wide  ApplicationSyntax }
 //! ```
-ghost use Rattle.std.specs.Prelude.{◌≡◌, Some, refl};
+ghost use Rattle.std.specs.Prelude.{◌≡◌, ◌↔◌, IsTrue, Some, refl};
 ghost use Rattle.std.proofs.Common.{arith};
 ghost use Rattle.yasna_notation.specs.Canonical.{represented_written, choice_written_as};
 ghost use Rattle.yasna_notation.specs.Laws.{represented_lawful};
@@ -37,6 +37,7 @@ use yasna_notation::{
     Alternatives, CanonicalNotation, Choice, Context, Either, Implicit, Message, Notation,
     Represents, read_as,
 };
+use yasna_notation_validity::Checked;
 
 type NoSuchObject = Implicit<Context<0>, ()>;
 
@@ -171,4 +172,17 @@ impl CanonicalNotation for BoundValue {
         (alternative_written (simple_written refl).own (alternative_written (application_wide_written refl).own
         (alternative_written (null_written refl).own (alternative_written (under_context 0 (omega arith) (null_written refl)).own
         (alternative_written (under_context 1 (omega arith) (null_written refl)).own (under_context 2 (omega arith) (null_written refl)).own)))))) };
+}
+
+impl Checked for BoundValue {
+    fn accepts(value: &BoundValue) -> bool {
+        match value {
+            BoundValue::Simple(value) => SimpleSyntax::accepts(value),
+            BoundValue::ApplicationWide(value) => ApplicationSyntax::accepts(value),
+            BoundValue::Unspecified => <() as Checked>::accepts(&()),
+            BoundValue::NoSuchObject => NoSuchObject::accepts(&()),
+            BoundValue::NoSuchInstance => NoSuchInstance::accepts(&()),
+            BoundValue::EndOfMibView => EndOfMibView::accepts(&()),
+        }
+    }
 }

@@ -8,7 +8,7 @@
 //! ```
 //!
 //! The data is a protocol data unit.
-ghost use Rattle.std.specs.Prelude.{◌≡◌, refl};
+ghost use Rattle.std.specs.Prelude.{◌≡◌, ◌↔◌, IsTrue, refl};
 ghost use Rattle.yasna_notation.specs.Canonical.{represented_written};
 ghost use Rattle.yasna_notation.specs.Laws.{represented_lawful, element_non_empty};
 ghost use Rattle.yasna_notation.specs.Making.{in_sequence, part, exactly, in_bound};
@@ -28,6 +28,7 @@ use yasna::{ASN1Result, BERMode, BERReader, DERWriter, PrependBuffer, Tag};
 use yasna_notation::{
     Bounded, CanonicalNotation, Exactly, Message, Notation, Represents, Sequence, read_as,
 };
+use yasna_notation_validity::{Checked, accepts_fields};
 
 type Version = Bounded<u64, Exactly<1>>;
 
@@ -109,4 +110,10 @@ impl CanonicalNotation for SnmpMessage {
     ghost written = { λ _. represented_written ⟦<SnmpMessage as Represents<Fields>>⟧.value_of (sequence_written
         (part_written (bound_written (exactly 1) (count64_written refl)).own
         (part_written (octets_written refl).own (part_written (pdus_written refl).own no_part_written)))) };
+}
+
+impl Checked for SnmpMessage {
+    fn accepts(value: &SnmpMessage) -> bool {
+        accepts_fields::<Parts, _>((&value.version, (&value.community, (&value.data, ()))))
+    }
 }

@@ -13,7 +13,7 @@
 //! ```
 //!
 //! The bounds of `request-id` lack a digit in the RFC: programs send numbers of 32 bits, and these are taken.
-ghost use Rattle.std.specs.Prelude.{◌≡◌, nat_lt, not, refl};
+ghost use Rattle.std.specs.Prelude.{◌≡◌, ◌↔◌, IsTrue, nat_lt, not, refl};
 ghost use Rattle.yasna_notation.specs.Canonical.{represented_written};
 ghost use Rattle.yasna_notation.specs.Laws.{represented_lawful, element_non_empty};
 ghost use Rattle.yasna_notation.specs.Making.{at_most, in_sequence, in_sequence_of, part, list_sized};
@@ -35,6 +35,7 @@ use yasna_notation::{
     AtMost, Bounded, CanonicalNotation, DefinedType, Message, Notation, Represents, Sequence,
     SequenceOf, SizeAtMost, read_as,
 };
+use yasna_notation_validity::{Checked, accepts_fields};
 
 type Index = Bounded<u64, AtMost<2147483647>>;
 
@@ -143,4 +144,16 @@ impl CanonicalNotation for Pdu {
         (part_written (at_most_written 2147483647 (count64_written refl)).own
         (part_written (list_sized_written (λ k. not (nat_lt 2147483647 k))
         (sequence_of_written (binding_written refl).own)).own no_part_written))))) };
+}
+
+impl Checked for Pdu {
+    fn accepts(value: &Pdu) -> bool {
+        accepts_fields::<Parts, _>((
+            &value.request_id,
+            (
+                &value.error_status,
+                (&value.error_index, (&value.variable_bindings, ())),
+            ),
+        ))
+    }
 }

@@ -11,7 +11,7 @@
 //!     snmpV2-trap       [7] IMPLICIT PDU,
 //!     report            [8] IMPLICIT PDU }
 //! ```
-ghost use Rattle.std.specs.Prelude.{◌≡◌, Some, refl};
+ghost use Rattle.std.specs.Prelude.{◌≡◌, ◌↔◌, IsTrue, Some, refl};
 ghost use Rattle.std.proofs.Common.{arith};
 ghost use Rattle.yasna_notation.specs.Canonical.{represented_written, choice_written_as};
 ghost use Rattle.yasna_notation.specs.Laws.{represented_lawful};
@@ -34,6 +34,7 @@ use yasna_notation::{
     Alternatives, CanonicalNotation, Choice, Context, Either, Implicit, Message, Notation,
     Represents, read_as,
 };
+use yasna_notation_validity::Checked;
 
 type GetRequestPdu = Implicit<Context<0>, Pdu>;
 
@@ -204,4 +205,19 @@ impl CanonicalNotation for Pdus {
         (alternative_written (under_context 3 (omega arith) (pdu_written refl)).own
         (alternative_written (under_context 6 (omega arith) (pdu_written refl)).own
         (alternative_written (under_context 7 (omega arith) (pdu_written refl)).own (under_context 8 (omega arith) (pdu_written refl)).own)))))))) };
+}
+
+impl Checked for Pdus {
+    fn accepts(value: &Pdus) -> bool {
+        match value {
+            Pdus::GetRequest(value) => GetRequestPdu::accepts(value),
+            Pdus::GetNextRequest(value) => GetNextRequestPdu::accepts(value),
+            Pdus::GetBulkRequest(value) => GetBulkRequestPdu::accepts(value),
+            Pdus::Response(value) => ResponsePdu::accepts(value),
+            Pdus::SetRequest(value) => SetRequestPdu::accepts(value),
+            Pdus::InformRequest(value) => InformRequestPdu::accepts(value),
+            Pdus::SnmpV2Trap(value) => SnmpV2TrapPdu::accepts(value),
+            Pdus::Report(value) => ReportPdu::accepts(value),
+        }
+    }
 }

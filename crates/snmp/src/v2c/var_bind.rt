@@ -5,7 +5,7 @@
 //!
 //! ObjectName ::= OBJECT IDENTIFIER
 //! ```
-ghost use Rattle.std.specs.Prelude.{◌≡◌, refl};
+ghost use Rattle.std.specs.Prelude.{◌≡◌, ◌↔◌, IsTrue, refl};
 ghost use Rattle.yasna_notation.specs.Canonical.{represented_written};
 ghost use Rattle.yasna_notation.specs.Laws.{represented_lawful, element_non_empty};
 ghost use Rattle.yasna_notation.specs.Making.{in_sequence, part};
@@ -22,6 +22,7 @@ use yasna::models::ObjectIdentifier;
 use yasna::tags::TAG_SEQUENCE;
 use yasna::{ASN1Result, BERMode, BERReader, DERWriter, PrependBuffer, Tag};
 use yasna_notation::{CanonicalNotation, Message, Notation, Represents, Sequence, read_as};
+use yasna_notation_validity::{Checked, accepts_fields};
 
 type Parts = (ObjectIdentifier, (BoundValue, ()));
 
@@ -82,4 +83,10 @@ impl Message for VarBind {
 impl CanonicalNotation for VarBind {
     ghost written = { λ _. represented_written ⟦<VarBind as Represents<Fields>>⟧.value_of (sequence_written
         (part_written (oid_written refl).own (part_written (value_written refl).own no_part_written))) };
+}
+
+impl Checked for VarBind {
+    fn accepts(value: &VarBind) -> bool {
+        accepts_fields::<Parts, _>((&value.name, (&value.value, ())))
+    }
 }
