@@ -206,11 +206,12 @@ pub fn write_pair(bytes: &mut Vec<u8>, number: i64, flag: bool) {
     bytes[place + 1] = (bytes.len() - place - 2) as u8;
 }
 
-/// Appends a pair whose flag comes first.
-pub fn write_flag_and_number(bytes: &mut Vec<u8>, flag: bool, number: i64) {
+/// Appends a pair of numbers.
+pub fn write_numbers(bytes: &mut Vec<u8>, first: i64, second: i64) {
     let place = bytes.len();
-    bytes.extend([48, 0, 1, 1, if flag { 255 } else { 0 }]);
-    write_integer(bytes, number);
+    bytes.extend([48, 0]);
+    write_integer(bytes, first);
+    write_integer(bytes, second);
     bytes[place + 1] = (bytes.len() - place - 2) as u8;
 }
 

@@ -12,7 +12,7 @@ use yasna::{construct_der, encode_der, DERWriterSeq};
 
 // A pair as a type of `asn1`.
 #[derive(asn1::Asn1Write)]
-struct Parts(bool, u64);
+struct Parts(u64, u32);
 
 pub fn cases() -> Vec<Case> {
     vec![
@@ -139,7 +139,7 @@ fn pairs() -> Case {
 // Pairs that are read once, and written so many times as a whole.
 fn pair_values(name: &'static str, count: u32, times: u64) -> Case {
     let numbers = 0..u64::from(count);
-    let pairs: Vec<(bool, u64)> = numbers.map(|number| (number % 2 == 0, number)).collect();
+    let pairs: Vec<(u64, u16)> = numbers.map(|number| (number, (number % 2) as u16)).collect();
     let pairs = kept(pairs);
     let sum =
         move |write: &dyn Fn() -> Vec<u8>| (0..black_box(times)).map(|_| length(write())).sum();
@@ -148,7 +148,7 @@ fn pair_values(name: &'static str, count: u32, times: u64) -> Case {
     let parts = kept(
         pairs
             .iter()
-            .map(|(flag, number)| Parts(*flag, *number))
+            .map(|(first, second)| Parts(*first, u32::from(*second)))
             .collect(),
     );
     Case::new(name, 1)
@@ -166,8 +166,8 @@ fn pair_values(name: &'static str, count: u32, times: u64) -> Case {
         .with(ByHand, move || {
             sum(&|| {
                 let mut contents = Vec::new();
-                for (flag, number) in black_box(pairs) {
-                    by_hand::write_flag_and_number(&mut contents, *flag, *number as i64);
+                for (first, second) in black_box(pairs) {
+                    by_hand::write_numbers(&mut contents, *first as i64, i64::from(*second));
                 }
                 by_hand::enclosed(48, &contents)
             })

@@ -26,11 +26,11 @@ pub extern "C" fn yasna_encode_pair(alloc: Global, number: i64, flag: bool) -> u
     length(encode_der(alloc, &(number, flag)))
 }
 
-/// The lengths of a SEQUENCE OF pairs that is read once and written so many times as a value, in sum. Their flags come first, so that no
+/// The lengths of a SEQUENCE OF pairs that is read once and written so many times as a value, in sum. They are of two numbers, so that no
 /// code is shared with the call that decodes a pair.
 #[unsafe(no_mangle)]
 pub extern "C" fn yasna_write_pair_values(alloc: Global, bytes: &[u8], times: u64) -> u64 {
-    number_of(written::<Vec<(bool, u64)>>(alloc, bytes, times))
+    number_of(written::<Vec<(u64, u16)>>(alloc, bytes, times))
 }
 
 // The lengths of a value that is read once and written so many times, in sum.
