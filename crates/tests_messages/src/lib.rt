@@ -3,6 +3,7 @@
 //! | Module | Holds |
 //! |---|---|
 //! | `certificates` | certificates and revocation lists of `x509` |
+//! | `changed` | messages that were changed after they were read |
 //! | `checks` | no test: it holds what is checked of every type |
 //! | `keys` | private keys, and signed and enveloped contents, of `pkcs8` and `cms` |
 //! | `kinds` | no test: it holds what a row is, and by what its kind is checked |
@@ -18,6 +19,8 @@
 
 #[cfg(test)]
 mod certificates;
+#[cfg(test)]
+mod changed;
 #[cfg(test)]
 mod checks;
 #[cfg(test)]
