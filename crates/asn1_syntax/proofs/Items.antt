@@ -4,7 +4,7 @@ use Rattle.std.specs.Char.{is_ascii_alphanumeric, is_ascii_digit, is_ascii_lower
 use Rattle.asn1_syntax.specs.declared.token.TokenKind.{TokenKind}
 use Rattle.asn1_syntax.specs.declared.token.TokenKind.TheVariants.{TypeReference, Identifier, Number, BString, HString, CString, Symbol}
 use Rattle.asn1_syntax.specs.Items.{BeginsItem, IsItem, IsQuoted, IsRunFrom, after_end, after_string, after_symbol, continues_word, first_is, is_in_bstring, is_in_hstring, is_symbol, is_pair, is_triple}
-use Rattle.asn1_syntax.specs.Spacing.{IsRun, after_run}
+use Rattle.asn1_syntax.specs.Spacing.{IsLexicalRun, after_run}
 use Rattle.asn1_syntax.proofs.Runs.{RunOf, pair_is, run_of}
 use Rattle.asn1_syntax.proofs.Spacings.{EndsWith, more_before}
 
@@ -72,7 +72,7 @@ quoted_of is_digit letter s r e =
     let joined : s ≡ run.run ++ (39 ∷ letter ∷ r) = run.joined ∙ ap (λ l. run.run ++ l) close in (
       39 ∷ (run.run ++ (39 ∷ letter ∷ [])),
       ap (λ l. 39 ∷ l) (joined ∙ sym (append_assoc run.run (39 ∷ letter ∷ []) r)),
-      record { digits = run.run; joined = refl; run = subst (IsRun g run.run) close run.is_run },
+      record { digits = run.run; joined = refl; run = subst (IsLexicalRun g run.run) close run.is_run },
     )
 
 -- a symbol ends

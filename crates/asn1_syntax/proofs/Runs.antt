@@ -1,13 +1,13 @@
 -- Runs of characters, and the text after them.
 use Rattle.std.proofs.Common.{◌≡◌, ◌==◌, ◌&&◌, ℕ, Bool, true, false, cond, List, [], ◌∷◌, ◌++◌, refl, ap, subst, arith}
 use Rattle.std.proofs.lemmas.Bool.Decides.{nat_tests}
-use Rattle.asn1_syntax.specs.Spacing.{IsRun, after_run}
+use Rattle.asn1_syntax.specs.Spacing.{IsLexicalRun, after_run}
 
 -- a text is a run and the text after it
 pub record RunOf (goes_on : List ℕ → Bool) (s after : List ℕ) : Type 0 where
   pub run : List ℕ
   pub joined : s ≡ run ++ after
-  pub is_run : IsRun goes_on run after
+  pub is_run : IsLexicalRun goes_on run after
   pub stops : goes_on after ≡ false
 
 run_more : (g : List ℕ → Bool) (c : ℕ) (s : List ℕ) (b : Bool) → g (c ∷ s) ≡ b → RunOf g s (after_run g s) → RunOf g (c ∷ s) (cond b (after_run g s) (c ∷ s))

@@ -1,7 +1,7 @@
 -- White space and comments, from the text after them.
 use Rattle.std.proofs.Common.{◌≡◌, ◌==◌, ◌&&◌, ◌+◌, ◌-◌, ◌<◌, ℕ, Bool, true, false, cond, not, List, [], ◌∷◌, ◌++◌, length, Some, None, ◌⊎◌, inl, inr, refl, sym, ◌∙◌, ap, subst, arith, append_assoc, length-append}
 use Rattle.std.specs.List.{concat}
-use Rattle.asn1_syntax.specs.Spacing.{EndsLine, IsCharacter, IsGap, IsRun, IsSpacing, after_comment, after_hyphens, after_run, after_spacing, in_line, is_newline, is_white_space}
+use Rattle.asn1_syntax.specs.Spacing.{EndsLine, IsCharacter, IsGap, IsLexicalRun, IsSpacing, after_comment, after_hyphens, after_run, after_spacing, in_line, is_newline, is_white_space}
 use Rattle.asn1_syntax.proofs.Runs.{RunOf, pair_is, run_of}
 
 -- another character of a comment leaves the text after the comment as it is
@@ -75,7 +75,7 @@ line_comment s =
     record {
       text = 45 ∷ 45 ∷ (r.run ++ e.close);
       joined = ap (λ l. 45 ∷ 45 ∷ l) (r.joined ∙ ap (λ l. r.run ++ l) e.joined ∙ sym (append_assoc r.run e.close _));
-      spacing = inr (inl (record { body = r.run; close = e.close; joined = refl; run = subst (IsRun in_line r.run) e.joined r.is_run; closed = e.closed }));
+      spacing = inr (inl (record { body = r.run; close = e.close; joined = refl; run = subst (IsLexicalRun in_line r.run) e.joined r.is_run; closed = e.closed }));
       some = omega arith;
     }
 

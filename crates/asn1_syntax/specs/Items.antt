@@ -7,7 +7,7 @@ use Rattle.asn1_syntax.specs.declared.error.Expected.TheVariants.{Item, CommentE
 use Rattle.asn1_syntax.specs.declared.token.TokenKind.{TokenKind}
 use Rattle.asn1_syntax.specs.declared.token.TokenKind.TheVariants.{TypeReference, Identifier, Number, BString, HString, CString, Symbol}
 use Rattle.asn1_syntax.specs.declared.item.ItemStart.{ItemStart}
-use Rattle.asn1_syntax.specs.Spacing.{IsRun, after_run, after_comment, is_white_space}
+use Rattle.asn1_syntax.specs.Spacing.{IsLexicalRun, after_run, after_comment, is_white_space}
 
 -- a text begins with a character at which a test holds
 abbrev pub first_is : (ℕ → Bool) → List ℕ → Bool
@@ -62,13 +62,13 @@ after_symbol (c ∷ d ∷ e ∷ s) =
 -- a text is a run that begins so
 pub record IsRunFrom (begins : ℕ → Bool) (goes_on : List ℕ → Bool) (text after : List ℕ) : Type 0 where
   pub first : first_is begins text ≡ true
-  pub run : IsRun goes_on text after
+  pub run : IsLexicalRun goes_on text after
 
 -- a text is digits in apostrophes, and a letter
 pub record IsQuoted (is_digit : ℕ → Bool) (letter : ℕ) (text after : List ℕ) : Type 0 where
   pub digits : List ℕ
   pub joined : text ≡ 39 ∷ (digits ++ (39 ∷ letter ∷ []))
-  pub run : IsRun (first_is is_digit) digits (39 ∷ letter ∷ after)
+  pub run : IsLexicalRun (first_is is_digit) digits (39 ∷ letter ∷ after)
 
 -- a text is a character string
 pub record IsString (text after : List ℕ) : Type 0 where
@@ -126,6 +126,6 @@ pub record BeginsItem (kind : TokenKind) (s after : List ℕ) : Type 0 where
   pub item : IsItem kind text after
 
 -- what a text begins with, or why with no item
-abbrev pub Begins : List ℕ → Result ItemStart Expected → Type 0
-Begins s (Ok x) = BeginsItem x.kind s x.after.now
-Begins s (Err e) = IsMissing e s
+abbrev pub ItemBegins : List ℕ → Result ItemStart Expected → Type 0
+ItemBegins s (Ok x) = BeginsItem x.kind s x.after.now
+ItemBegins s (Err e) = IsMissing e s

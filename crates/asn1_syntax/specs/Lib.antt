@@ -3,3 +3,5 @@ pub mod Items
 pub mod Lexing
 pub mod Tree
 pub mod Parsing
+pub mod Places
+pub mod Printing

@@ -13,9 +13,9 @@ abbrev pub is_white_space : ℕ → Bool
 is_white_space c = (c == 9 || c == 32) || is_newline c
 
 -- `goes_on` holds from each character of a run on, and not from the text after it on
-abbrev pub IsRun : (List ℕ → Bool) → List ℕ → List ℕ → Type 0
-IsRun goes_on [] after = goes_on after ≡ false
-IsRun goes_on (c ∷ run) after = (goes_on (c ∷ (run ++ after)) ≡ true) × IsRun goes_on run after
+abbrev pub IsLexicalRun : (List ℕ → Bool) → List ℕ → List ℕ → Type 0
+IsLexicalRun goes_on [] after = goes_on after ≡ false
+IsLexicalRun goes_on (c ∷ run) after = (goes_on (c ∷ (run ++ after)) ≡ true) × IsLexicalRun goes_on run after
 
 -- the text after the run at its start
 abbrev pub after_run : (List ℕ → Bool) → List ℕ → List ℕ
@@ -57,11 +57,11 @@ abbrev pub IsCharacter : List ℕ → List ℕ → Type 0
 IsCharacter [] more = ⊥
 IsCharacter (c ∷ s) more = (s ≡ more) × (begins_pair 42 47 (c ∷ s) ≡ false) × (begins_pair 47 42 (c ∷ s) ≡ false)
 
-abbrev pub IsPart : List ℕ → CommentPart → Type 0
-IsPart text (End more) = text ≡ 42 ∷ 47 ∷ more.now
-IsPart text (Begin more) = text ≡ 47 ∷ 42 ∷ more.now
-IsPart text (Character more) = IsCharacter text more.now
-IsPart text Nothing = text ≡ []
+abbrev pub IsCommentPart : List ℕ → CommentPart → Type 0
+IsCommentPart text (End more) = text ≡ 42 ∷ 47 ∷ more.now
+IsCommentPart text (Begin more) = text ≡ 47 ∷ 42 ∷ more.now
+IsCommentPart text (Character more) = IsCharacter text more.now
+IsCommentPart text Nothing = text ≡ []
 
 -- the text after the beginning of a comment's text is shorter than it
 abbrev pub IsShorter : List ℕ → CommentPart → Type 0
@@ -89,7 +89,7 @@ pub record IsLineComment (text after : List ℕ) : Type 0 where
   pub body : List ℕ
   pub close : List ℕ
   pub joined : text ≡ 45 ∷ 45 ∷ (body ++ close)
-  pub run : IsRun in_line body (close ++ after)
+  pub run : IsLexicalRun in_line body (close ++ after)
   pub closed : (close ≡ 45 ∷ 45 ∷ []) ⊎ ((close ≡ []) × EndsLine after)
 
 -- a text is a comment that `/*` begins and `*/` ends; comments nest

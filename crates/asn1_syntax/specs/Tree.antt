@@ -6,6 +6,9 @@ use Rattle.asn1_syntax.specs.declared.cursor.Cursor.{Cursor}
 use Rattle.asn1_syntax.specs.declared.token.Token.{Token}
 use Rattle.asn1_syntax.specs.declared.tree.Assignment.{Assignment}
 use Rattle.asn1_syntax.specs.declared.tree.Assignment.TheVariants as assignments
+use Rattle.asn1_syntax.specs.declared.token.TokenKind.{TokenKind}
+use Rattle.asn1_syntax.specs.declared.token.TokenKind.TheVariants.{TypeReference, Identifier}
+use Rattle.asn1_syntax.specs.declared.tree.ClassNotation.{ClassNotation}
 use Rattle.asn1_syntax.specs.declared.tree.Component.{Component}
 use Rattle.asn1_syntax.specs.declared.tree.Import.{Import}
 use Rattle.asn1_syntax.specs.declared.tree.ListHead.{ListHead}
@@ -29,13 +32,13 @@ abbrev pub Texts : Type 0
 Texts = List (List ℕ)
 
 -- the texts of lexical items
-abbrev pub texts : List Token → Texts
-texts [] = []
-texts (t ∷ ts) = t.text.now ∷ texts ts
+abbrev pub item_texts : List Token → Texts
+item_texts [] = []
+item_texts (t ∷ ts) = t.text.now ∷ item_texts ts
 
 -- the texts that a cursor has left
 abbrev pub left : Cursor → Texts
-left c = texts c.rest.now
+left c = item_texts c.rest.now
 
 -- the first of texts
 abbrev pub BeginsWith : List ℕ → Texts → Type 0
@@ -149,13 +152,24 @@ abbrev pub exports_then : Option (Vec Token Global) → Texts → Texts
 exports_then None rest = rest
 exports_then (Some ts) rest = codes "EXPORTS" ∷ texts_then ts.items (codes ";" ∷ rest)
 
--- names, each after a comma
+-- a lexical item is a name
+abbrev pub is_name : TokenKind → Bool
+is_name TypeReference = true
+is_name Identifier = true
+is_name _ = false
+
+-- names, each after a comma, and braces after names
 abbrev pub names_then : List Token → Texts → Texts
 names_then [] rest = rest
-names_then (t ∷ ts) rest = codes "," ∷ t.text.now ∷ names_then ts rest
+names_then (t ∷ ts) rest = comma_then (is_name t.kind) (t.text.now ∷ names_then ts rest)
+
+abbrev pub selection_then : Option Token → Texts → Texts
+selection_then None rest = rest
+selection_then (Some t) rest = codes "WITH" ∷ t.text.now ∷ rest
 
 abbrev pub import_then : Import → Texts → Texts
-import_then i rest = i.first.text.now ∷ names_then i.others.items (codes "FROM" ∷ i.module.text.now ∷ braces_then i.identifier rest)
+import_then i rest = i.first.text.now ∷ names_then i.others.items
+    (codes "FROM" ∷ i.module.text.now ∷ braces_then i.identifier (optional_then i.value (selection_then i.selection rest)))
 
 abbrev pub import_list_then : List Import → Texts → Texts
 import_list_then [] rest = rest
@@ -165,9 +179,21 @@ abbrev pub imports_then : Option (Vec Import Global) → Texts → Texts
 imports_then None rest = rest
 imports_then (Some is) rest = codes "IMPORTS" ∷ import_list_then is.items (codes ";" ∷ rest)
 
+abbrev pub syntax_then : Option (Vec Token Global) → Texts → Texts
+syntax_then None rest = rest
+syntax_then (Some ts) rest = codes "WITH" ∷ codes "SYNTAX" ∷ braced_then ts.items rest
+
+abbrev pub class_then : ClassNotation → Texts → Texts
+class_then c rest = codes "CLASS" ∷ braced_then c.fields.items (syntax_then c.syntax rest)
+
 abbrev pub assignment_then : Assignment → Texts → Texts
 assignment_then (assignments.Type name notation) rest = name.text.now ∷ codes "::=" ∷ type_then notation rest
 assignment_then (assignments.Value name notation value) rest = name.text.now ∷ type_then notation (codes "::=" ∷ texts_then value.items rest)
+assignment_then (assignments.ParameterizedType name parameters notation) rest =
+    name.text.now ∷ braced_then parameters.items (codes "::=" ∷ type_then notation rest)
+assignment_then (assignments.ParameterizedValue name parameters notation value) rest =
+    name.text.now ∷ braced_then parameters.items (type_then notation (codes "::=" ∷ texts_then value.items rest))
+assignment_then (assignments.Class name parameters class) rest = name.text.now ∷ braces_then parameters (codes "::=" ∷ class_then class rest)
 
 abbrev pub assignments_then : List Assignment → Texts → Texts
 assignments_then [] rest = rest
@@ -175,8 +201,8 @@ assignments_then (a ∷ more) rest = assignment_then a (assignments_then more re
 
 abbrev pub module_then : Module → Texts → Texts
 module_then m rest =
-    m.name.text.now ∷ braces_then m.identifier (codes "DEFINITIONS" ∷ tags_then m.tags (extensible_then m.extensible
-    (codes "::=" ∷ codes "BEGIN" ∷ exports_then m.exports (imports_then m.imports (assignments_then m.assignments.items (codes "END" ∷ rest))))))
+    m.name.text.now ∷ braces_then m.identifier (optional_then m.iri (codes "DEFINITIONS" ∷ tags_then m.tags (extensible_then m.extensible
+    (codes "::=" ∷ codes "BEGIN" ∷ exports_then m.exports (imports_then m.imports (assignments_then m.assignments.items (codes "END" ∷ rest)))))))
 
 abbrev pub modules_then : List Module → Texts → Texts
 modules_then [] rest = rest

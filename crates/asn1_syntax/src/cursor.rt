@@ -1,6 +1,6 @@
 //! A cursor in lexical items.
 ghost use Rattle.std.specs.Prelude.{◌≡◌, ◌∷◌, [], codes, IfOk, OnOk, IsTrue};
-ghost use Rattle.asn1_syntax.specs.Tree.{BeginsWith, braced_then, left, parenthesized_then, texts, texts_then};
+ghost use Rattle.asn1_syntax.specs.Tree.{BeginsWith, braced_then, item_texts, left, parenthesized_then, texts_then};
 
 use crate::error::{Expected, SyntaxError};
 use crate::token::{Token, TokenKind};
@@ -24,7 +24,7 @@ pub struct Cursor<'t, 'a> {
 impl<'t, 'a> Cursor<'t, 'a> {
     /// A cursor before lexical items of a source that ends at this offset.
     pub fn new(rest: &'t [Token<'a>], end: usize) -> Cursor<'t, 'a>
-        ensures { left result ≡ texts rest.now }
+        ensures { left result ≡ item_texts rest.now }
     {
         Cursor { rest, end }
     }
@@ -86,12 +86,15 @@ impl<'t, 'a> Cursor<'t, 'a> {
 
     /// The next lexical item, which has to be of this kind.
     pub fn next_of(&mut self, kind: TokenKind, expected: Expected) -> Result<Token<'a>, SyntaxError>
-        ensures { IfOk result (λ token. left self.old ≡ token.text.now ∷ left self.new) }
+        ensures text { IfOk result (λ token. left self.old ≡ token.text.now ∷ left self.new) }
+        ensures kind { IfOk result (λ token. token.kind ≡ kind) }
     {
-        if self.next_is_kind(kind) {
-            self.next(expected)
-        } else {
-            Err(self.missing(expected))
+        match self.rest {
+            [token, rest @ ..] if token.kind == kind => {
+                self.rest = rest;
+                Ok(*token)
+            }
+            _ => Err(self.missing(expected)),
         }
     }
 

@@ -2,7 +2,7 @@
 ghost use Rattle.std.specs.Prelude.{◌≡◌, ◌∷◌, true, None, option_copied, IfOk, IfErr};
 ghost use Rattle.std.specs.Char.{is_ascii_digit, is_ascii_lowercase, is_ascii_uppercase};
 ghost use Rattle.asn1_syntax.specs.Spacing.{after_run, after_spacing};
-ghost use Rattle.asn1_syntax.specs.Items.{after_end, after_string, after_symbol, continues_word, first_is, is_in_bstring, is_in_hstring, is_pair, is_symbol, is_triple, Begins, BeginsItem};
+ghost use Rattle.asn1_syntax.specs.Items.{after_end, after_string, after_symbol, continues_word, first_is, is_in_bstring, is_in_hstring, is_pair, is_symbol, is_triple, ItemBegins, BeginsItem};
 
 use crate::error::Expected;
 use crate::spacing::is_white_space;
@@ -157,7 +157,7 @@ fn after_symbol(text: &[u8]) -> Option<&[u8]>
 }
 
 fn string_item(body: &[u8]) -> Result<ItemStart<'_>, Expected>
-    ensures { Begins (34 ∷ body.now) result }
+    ensures { ItemBegins (34 ∷ body.now) result }
 {
     match after_string(body) {
         Some(after) => Ok(ItemStart {
@@ -169,7 +169,7 @@ fn string_item(body: &[u8]) -> Result<ItemStart<'_>, Expected>
 }
 
 fn quoted_item(body: &[u8]) -> Result<ItemStart<'_>, Expected>
-    ensures { Begins (39 ∷ body.now) result }
+    ensures { ItemBegins (39 ∷ body.now) result }
 {
     if let Some(after) = after_end(after_binary(body), b'B') {
         return Ok(ItemStart {
@@ -235,7 +235,7 @@ fn symbol_item(text: &[u8]) -> Result<ItemStart<'_>, Expected>
 /// The lexical item at the start of a text that doesn't begin with a white space or a comment that ends, or why none is there.
 pub fn item(text: &[u8]) -> Result<ItemStart<'_>, Expected>
     requires { after_spacing text.now ≡ None }
-    ensures { Begins text.now result }
+    ensures { ItemBegins text.now result }
 {
     match text {
         [b'A'..=b'Z', ..] => Ok(upper_item(text)),

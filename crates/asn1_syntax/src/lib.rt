@@ -1,7 +1,7 @@
 //! The syntax of ASN.1 modules (X.680): lexical items, and the tree of a module.
 //!
-//! What is between brackets in a constraint, after a type's name or in a value is kept as lexical items. Macros and the information objects of
-//! X.681 are rejected.
+//! What is between brackets in a constraint, after a type's name, in a class or in a value is kept as lexical items. So are parameters and
+//! arguments (X.683) and information objects (X.681). Macros (X.208) are rejected.
 //!
 //! | Module | Holds |
 //! |---|---|
@@ -15,14 +15,26 @@
 //! | `notation` | the parts of types and of values in which no other type is |
 //! | `types` | types, of whatever depth |
 //! | `module` | modules |
+//! | `located` | errors at the places of lexical items |
+//! | `place` | lines and columns |
+//! | `prepended` | texts, collected from the last one to the first one |
+//! | `printed_notation` | the lexical items of these parts again |
+//! | `printed_types` | the lexical items of types |
+//! | `printed_module` | the lexical items of modules |
 #![tactic(auto)]
 
 mod cursor;
 mod error;
 mod item;
 mod lexer;
+mod located;
 mod module;
 mod notation;
+mod place;
+mod prepended;
+mod printed_module;
+mod printed_notation;
+mod printed_types;
 mod spacing;
 mod token;
 pub mod tree;
@@ -31,7 +43,6 @@ mod types;
 pub use error::{Expected, SyntaxError};
 pub use lexer::lex;
 pub use module::{MAX_DEPTH, parse};
+pub use place::{Place, place_at};
+pub use printed_module::print;
 pub use token::{Token, TokenKind};
-
-#[cfg(test)]
-mod tests;

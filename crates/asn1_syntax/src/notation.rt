@@ -38,7 +38,6 @@ const RESERVED: &[&[u8]] = &[
     b"IMPLIED",
     b"IMPORTS",
     b"INCLUDES",
-    b"INSTANCE",
     b"INTERSECTION",
     b"MACRO",
     b"MAX",
@@ -94,6 +93,7 @@ fn push_words<'a>(
         b"OBJECT" => cursor.push_text(words, "IDENTIFIER"),
         b"EMBEDDED" => cursor.push_text(words, "PDV"),
         b"ANY" => push_defined_by(cursor, words),
+        b"INSTANCE" => push_instance_of(cursor, words),
         _ => push_reference(cursor, words),
     }
 }
@@ -113,18 +113,58 @@ fn push_defined_by<'a>(
     cursor.push_next(words, Expected::Identifier)
 }
 
-// Moves the type's name of an external reference, and `.` before it, to the end of a list, if they are next.
+// Moves OF and the name of a class to the end of a list (X.681, C.2).
+fn push_instance_of<'a>(
+    cursor: &mut Cursor<'_, 'a>,
+    words: &mut Vec<Token<'a>>,
+) -> Result<(), SyntaxError>
+    ensures { OnOk result (texts_then words.old.items (left cursor.old) ≡ texts_then words.new.items (left cursor.new)) }
+{
+    cursor.push_text(words, "OF")?;
+    push_name(cursor, words)?;
+    push_reference(cursor, words)
+}
+
+// Moves a name to the end of a list.
+fn push_name<'a>(cursor: &mut Cursor<'_, 'a>, words: &mut Vec<Token<'a>>) -> Result<(), SyntaxError>
+    ensures { OnOk result (texts_then words.old.items (left cursor.old) ≡ texts_then words.new.items (left cursor.new)) }
+{
+    if !is_word(cursor) {
+        return Err(cursor.missing(Expected::TypeReference));
+    }
+    cursor.push_next(words, Expected::TypeReference)
+}
+
+// Moves a symbol to the end of a list, if it is next.
+fn push_if_next<'a>(
+    cursor: &mut Cursor<'_, 'a>,
+    tokens: &mut Vec<Token<'a>>,
+    text: &'static str,
+) -> Result<(), SyntaxError>
+    ensures { OnOk result (texts_then tokens.old.items (left cursor.old) ≡ texts_then tokens.new.items (left cursor.new)) }
+{
+    if !cursor.next_is(text) {
+        return Ok(());
+    }
+    cursor.push_text(tokens, text)
+}
+
+// Moves the names that are next, each after `.`, to the end of a list: the type of another module, or fields of a class after `&`.
 fn push_reference<'a>(
     cursor: &mut Cursor<'_, 'a>,
     words: &mut Vec<Token<'a>>,
 ) -> Result<(), SyntaxError>
     ensures { OnOk result (texts_then words.old.items (left cursor.old) ≡ texts_then words.new.items (left cursor.new)) }
 {
-    if !cursor.next_is(".") {
-        return Ok(());
+    for _ in 0..cursor.len() {
+        if !cursor.next_is(".") {
+            return Ok(());
+        }
+        cursor.push_text(words, ".")?;
+        push_if_next(cursor, words, "&")?;
+        push_name(cursor, words)?;
     }
-    cursor.push_text(words, ".")?;
-    cursor.push_next(words, Expected::TypeReference)
+    Ok(())
 }
 
 // The first word of a type.
@@ -258,20 +298,26 @@ pub fn list_head<'a>(
     })
 }
 
-// Moves a minus to the end of a list, if it is next.
-fn push_sign<'a>(
+// Moves a word, and its arguments in braces if they are next, to the end of a list.
+fn push_with_arguments<'a>(
     cursor: &mut Cursor<'_, 'a>,
     tokens: &mut Vec<Token<'a>>,
 ) -> Result<(), SyntaxError>
     ensures { OnOk result (texts_then tokens.old.items (left cursor.old) ≡ texts_then tokens.new.items (left cursor.new)) }
 {
-    if !cursor.next_is("-") {
+    push_name(cursor, tokens)?;
+    if !cursor.next_is("{") {
         return Ok(());
     }
-    cursor.push_next(tokens, Expected::Value)
+    cursor.push_braced(tokens)
 }
 
-// Moves a number, a name, a string, or what is in braces, to the end of a list.
+// Whether a word is next.
+fn is_word(cursor: &Cursor<'_, '_>) -> bool {
+    cursor.next_is_kind(TokenKind::TypeReference) || cursor.next_is_kind(TokenKind::Identifier)
+}
+
+// Moves a number, a name with or without arguments, a field, a string, or what is in braces, to the end of a list.
 fn push_operand<'a>(
     cursor: &mut Cursor<'_, 'a>,
     tokens: &mut Vec<Token<'a>>,
@@ -281,7 +327,11 @@ fn push_operand<'a>(
     if cursor.next_is("{") {
         return cursor.push_braced(tokens);
     }
-    push_sign(cursor, tokens)?;
+    push_if_next(cursor, tokens, "-")?;
+    push_if_next(cursor, tokens, "&")?;
+    if is_word(cursor) {
+        return push_with_arguments(cursor, tokens);
+    }
     if cursor.next_is_kind(TokenKind::Symbol) {
         return Err(cursor.missing(Expected::Value));
     }

@@ -1,6 +1,6 @@
 //! White space and comments between lexical items (X.680, 12.1.6 and 12.6).
 ghost use Rattle.std.specs.Prelude.{◌≡◌, None, option_copied};
-ghost use Rattle.asn1_syntax.specs.Spacing.{after_comment, after_hyphens, after_run, after_spacing, in_line, is_newline, is_white_space, begins_hyphens, IsGap, IsPart, IsShorter};
+ghost use Rattle.asn1_syntax.specs.Spacing.{after_comment, after_hyphens, after_run, after_spacing, in_line, is_newline, is_white_space, begins_hyphens, IsGap, IsCommentPart, IsShorter};
 
 // Whether a character ends a line.
 fn is_newline(c: u8) -> bool
@@ -70,7 +70,7 @@ enum CommentPart<'a> {
 }
 
 fn comment_part(text: &[u8]) -> CommentPart<'_>
-    ensures value { IsPart text.now result }
+    ensures value { IsCommentPart text.now result }
     ensures shorter { IsShorter text.now result }
 {
     match text {

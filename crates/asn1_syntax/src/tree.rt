@@ -1,4 +1,4 @@
-//! The tree of a module (X.680, 13 to 31).
+//! The tree of a module (X.680, 13 to 31, X.681 and X.683).
 //!
 //! A list of lexical items in a tree is what is between two brackets, or a value. Brackets, separators and reserved words that the tree's form
 //! implies are no part of it.
@@ -8,7 +8,8 @@ use crate::token::Token;
 /// A type in which no other type is, as BOOLEAN, OCTET STRING, ENUMERATED or a reference.
 #[derive(Drop)]
 pub struct PlainType<'a> {
-    /// The words, as `OCTET` and `STRING`, or as `ANY`, `DEFINED`, `BY` and a name. Those of an external reference have `.` between them.
+    /// The words, as `OCTET` and `STRING`, or as `ANY`, `DEFINED`, `BY` and a name. Those of an external reference have `.` between them, and a
+    /// field of a class has `.` and `&` before it.
     pub words: Vec<Token<'a>>,
     /// What is in braces after them: named numbers, named bits, or the arguments of a reference.
     pub braces: Option<Vec<Token<'a>>>,
@@ -99,13 +100,28 @@ pub enum TypeNotation<'a> {
     Constrained(Box<TypeNotation<'a>>, Vec<Vec<Token<'a>>>),
 }
 
+/// An information object class (X.681, 9.3).
+#[derive(Drop)]
+pub struct ClassNotation<'a> {
+    /// What is in the braces after CLASS, its fields.
+    pub fields: Vec<Token<'a>>,
+    /// What is in the braces after WITH SYNTAX.
+    pub syntax: Option<Vec<Token<'a>>>,
+}
+
 /// An assignment (X.680, 16).
 #[derive(Drop)]
 pub enum Assignment<'a> {
     /// A name and a type.
     Type(Token<'a>, TypeNotation<'a>),
-    /// A name, a type, and a value or a set of values.
+    /// A name, a type or a class, and a value, an object, or a set of these.
     Value(Token<'a>, TypeNotation<'a>, Vec<Token<'a>>),
+    /// A name, what is in braces after it, its parameters, and a type (X.683, 8.2).
+    ParameterizedType(Token<'a>, Vec<Token<'a>>, TypeNotation<'a>),
+    /// A name, its parameters, a type or a class, and a value, an object, or a set of these (X.683, 8.2).
+    ParameterizedValue(Token<'a>, Vec<Token<'a>>, TypeNotation<'a>, Vec<Token<'a>>),
+    /// A name, its parameters if it has some, and an information object class.
+    Class(Token<'a>, Option<Vec<Token<'a>>>, ClassNotation<'a>),
 }
 
 /// The tags of a module (X.680, 13.2).
@@ -126,12 +142,16 @@ pub enum TagDefault {
 pub struct Import<'a> {
     /// The first name.
     pub first: Token<'a>,
-    /// The other names.
+    /// The other names. After a name, the first one too, there may be `{` and `}`, two symbols: its definition has parameters (X.683, 9.1).
     pub others: Vec<Token<'a>>,
     /// The name of the other module.
     pub module: Token<'a>,
     /// What is in braces after it, its object identifier.
     pub identifier: Option<Vec<Token<'a>>>,
+    /// The name of a value after it, its object identifier.
+    pub value: Option<Token<'a>>,
+    /// SUCCESSORS or DESCENDANTS, after WITH.
+    pub selection: Option<Token<'a>>,
 }
 
 /// A module (X.680, 13).
@@ -141,6 +161,8 @@ pub struct Module<'a> {
     pub name: Token<'a>,
     /// What is in braces after it, its object identifier.
     pub identifier: Option<Vec<Token<'a>>>,
+    /// The character string after that, its internationalized resource identifier.
+    pub iri: Option<Token<'a>>,
     /// The tags.
     pub tags: TagDefault,
     /// Whether EXTENSIBILITY IMPLIED is there.
