@@ -1,0 +1,29 @@
+use Rattle.std.proofs.Common.{◌*◌, ◌+◌}
+use Rattle.asn1_types.proofs.types.+types.Given as goal
+
+abbrev pub decreases-notation : goal.decreases-notation
+decreases-notation l = 8 * l.depth
+
+abbrev pub decreases-part : goal.decreases-part
+decreases-part l = 8 * l.depth + 1
+
+abbrev pub decreases-parts : goal.decreases-parts
+decreases-parts l = 8 * l.depth + 2
+
+abbrev pub decreases-body : goal.decreases-body
+decreases-body l = 8 * l.depth + 3
+
+abbrev pub decreases-define : goal.decreases-define
+decreases-define l = 8 * l.depth + 4
+
+abbrev pub decreases-definition : goal.decreases-definition
+decreases-definition l = 8 * l.depth + 4
+
+abbrev pub decreases-assign : goal.decreases-assign
+decreases-assign l = 8 * l.depth + 5
+
+abbrev pub decreases-reference : goal.decreases-reference
+decreases-reference l = 8 * l.depth + 6
+
+abbrev pub decreases-plain_notation : goal.decreases-plain_notation
+decreases-plain_notation l = 8 * l.depth + 7

@@ -1,0 +1,2 @@
+pub mod Tags
+pub mod Presence

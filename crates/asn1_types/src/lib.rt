@@ -1,0 +1,55 @@
+//! The types of ASN.1 modules, resolved (X.680): names, values, tags, bounds and defaults.
+//!
+//! Proved are the functions of `tags`: whether a tag is EXPLICIT or IMPLICIT (30.6), when parts are tagged automatically (24.2 and 28.2), and by
+//! which numbers (24.7), as `specs/Tags.antt` says. So are two facts: what may be absent still may be, and the module of an import is the one after
+//! FROM. That the resolver asks them for each type, and what else names, values and constraints are resolved to, is only tested.
+//!
+//! | Module | Holds |
+//! |---|---|
+//! | `model` | resolved types |
+//! | `problem` | why types are rejected |
+//! | `tokens` | lists of lexical items |
+//! | `scope` | what a name means in a module |
+//! | `values` | values of INTEGER and OBJECT IDENTIFIER |
+//! | `integers` | the order of integers, and bounds |
+//! | `constraints` | constraints of numbers and sizes |
+//! | `enumerations` | the items of an ENUMERATED |
+//! | `builtins` | the types that have words of their own |
+//! | `cores` | the type that a name means |
+//! | `components` | parts, with those of COMPONENTS OF |
+//! | `tags` | the tags of X.680 |
+//! | `tags_of_types` | the tags that encodings begin with, and parts that no tag distinguishes |
+//! | `defaults` | the values after DEFAULT |
+//! | `resolver` | what is known while types are resolved |
+//! | `plain` | types in which no other type is, tags, and constraints |
+//! | `open_types` | parameters, and fields of classes |
+//! | `bodies` | SEQUENCEs, SETs and CHOICEs |
+//! | `types` | types, of whatever depth |
+//! | `constants` | the values that have a name |
+//! | `modules` | all types and values of modules |
+#![tactic(auto)]
+
+mod bodies;
+mod builtins;
+mod components;
+mod constants;
+mod constraints;
+mod cores;
+mod defaults;
+mod enumerations;
+mod integers;
+pub mod model;
+mod modules;
+mod open_types;
+mod plain;
+mod problem;
+mod resolver;
+mod scope;
+pub mod tags;
+mod tags_of_types;
+mod tokens;
+mod types;
+mod values;
+
+pub use modules::resolve;
+pub use problem::{Problem, ProblemKind, problem_text};

@@ -1,0 +1,105 @@
+//! The types and values of modules.
+
+use crate::constants::constants_of;
+use crate::cores::TypeAt;
+use crate::model::{KnownType, Resolved};
+use crate::plain::at;
+use crate::problem::{ProblemKind, Stop, problem_of_two};
+use crate::resolver::{Resolver, State, new_resolver, state_of};
+use crate::scope::{AssignmentPlace, Scope, assigned_name, assignment_index, type_assigned};
+use crate::types::{MAX_DEPTH, assign};
+use asn1_syntax::Token;
+use asn1_syntax::tree::{Assignment, Module};
+use std::alloc::{AllocError, Global};
+
+// Records that a name is assigned twice, if an assignment before this one has it (X.680, 13.15).
+fn check_name<'a>(
+    r: &mut Resolver<'a>,
+    module: &'a Module<'a>,
+    place: AssignmentPlace,
+    name: Token<'a>,
+) -> Result<(), Stop> {
+    let Some(first) = assignment_index(module, name.text) else {
+        return Ok(());
+    };
+    let Some(other) = module.assignments.get(first) else {
+        return Ok(());
+    };
+    if first != place.assignment {
+        r.problems.push(problem_of_two(
+            at(place.module, name),
+            at(place.module, assigned_name(other)),
+            ProblemKind::AssignedTwice,
+        ))?;
+    }
+    Ok(())
+}
+
+// Resolves an assignment, if it isn't yet.
+fn resolve_assignment<'a>(
+    r: &mut Resolver<'a>,
+    module: &'a Module<'a>,
+    place: AssignmentPlace,
+    assignment: &'a Assignment<'a>,
+) -> Result<(), Stop> {
+    check_name(r, module, place, assigned_name(assignment))?;
+    let Some(notation) = type_assigned(assignment) else {
+        return Ok(());
+    };
+    if !matches!(state_of(r, place), State::Unresolved) {
+        return Ok(());
+    }
+    let assigned = TypeAt {
+        module: place.module,
+        notation,
+    };
+    assign(r, place, assigned, MAX_DEPTH)
+}
+
+// Resolves the assignments of a module.
+fn resolve_module<'a>(
+    r: &mut Resolver<'a>,
+    index: usize,
+    module: &'a Module<'a>,
+) -> Result<(), Stop> {
+    for (assignment, source) in module.assignments.iter().enumerate() {
+        let place = AssignmentPlace {
+            module: index,
+            assignment,
+        };
+        resolve_assignment(r, module, place, source)?;
+    }
+    Ok(())
+}
+
+// The types and values of modules, unless memory runs out.
+fn resolved<'a>(alloc: Global, scope: Scope<'a>) -> Result<Resolved<'a>, Stop> {
+    let mut r = new_resolver(alloc, scope)?;
+    for (index, module) in scope.modules.iter().enumerate() {
+        resolve_module(&mut r, index, module)?;
+    }
+    let constants = constants_of(alloc, scope)?;
+    let mut problems = r.problems;
+    for problem in &constants.problems {
+        problems.push(*problem)?;
+    }
+    Ok(Resolved {
+        definitions: r.definitions,
+        constants: constants.list,
+        problems,
+    })
+}
+
+/// The types and values of modules, and why types are rejected.
+///
+/// A name that is imported from a module that is not among them is that of a known type.
+pub fn resolve<'a>(
+    alloc: Global,
+    modules: &'a [Module<'a>],
+    known: &'a [KnownType<'a>],
+) -> Result<Resolved<'a>, AllocError> {
+    match resolved(alloc, Scope { modules, known }) {
+        Ok(resolved) => Ok(resolved),
+        Err(_) => Err(AllocError),
+    }
+}

@@ -1,0 +1,83 @@
+//! Types that a module leaves open: parameters (X.683), and fields of classes (X.681).
+
+use crate::builtins::{Builtin, builtin_of};
+use crate::cores::{TypeAt, place_of};
+use crate::integers::UNBOUNDED;
+use crate::model::{Loosening, Notation};
+use crate::problem::Stop;
+use crate::resolver::{Resolver, note};
+use crate::scope::{Meaning, Scope, assignment_at, meaning_of};
+use crate::tokens::{has_text, is};
+use asn1_syntax::Token;
+use asn1_syntax::tree::{Assignment, PlainType};
+
+// The lexical items in the braces of a class.
+fn class_fields<'a>(scope: Scope<'a>, module: usize, class: Token<'a>) -> &'a [Token<'a>] {
+    match meaning_of(scope, module, class) {
+        Ok(Meaning::Assigned(place)) => match assignment_at(scope.modules, place) {
+            Some(Assignment::Class(_, _, notation)) => notation.fields.as_slice(),
+            _ => &[],
+        },
+        _ => &[],
+    }
+}
+
+// The word after the name of a field.
+fn word_after<'a>(fields: &'a [Token<'a>], field: &[u8]) -> Option<Token<'a>> {
+    let index = fields.iter().position(|token| is(*token, field))?;
+    fields.get(index.checked_add(1)?).copied()
+}
+
+// The type of a field: that of the class, if it has a word of its own. That of `id` is OBJECT IDENTIFIER, as in TYPE-IDENTIFIER.
+fn field_notation<'a>(
+    scope: Scope<'a>,
+    module: usize,
+    class: Token<'a>,
+    field: Token<'a>,
+) -> Notation {
+    match word_after(class_fields(scope, module, class), field.text) {
+        Some(word) => match builtin_of(word.text) {
+            Some(Builtin::ObjectIdentifier) => Notation::ObjectIdentifier,
+            Some(Builtin::Integer) => Notation::Integer(UNBOUNDED),
+            Some(Builtin::Boolean) => Notation::Boolean,
+            _ => Notation::Any,
+        },
+        None if is(field, b"id") => Notation::ObjectIdentifier,
+        None => Notation::Any,
+    }
+}
+
+// Whether a name is a parameter, and not the governor of one.
+fn is_parameter(parameters: &[Token<'_>], name: &[u8]) -> bool {
+    let Some(index) = parameters.iter().position(|token| is(*token, name)) else {
+        return false;
+    };
+    let (_, rest) = parameters.split_at(index);
+    !matches!(rest, [_, colon, ..] if is(*colon, b":"))
+}
+
+/// The notation of a parameter or a field of a class. `None` is another type.
+pub fn open_notation<'a>(
+    r: &mut Resolver<'a>,
+    at: TypeAt<'a>,
+    plain: &'a PlainType<'a>,
+) -> Result<Option<Notation>, Stop> {
+    match plain.words.as_slice() {
+        [name] if is_parameter(r.work.parameters, name.text) => {
+            note(r, place_of(at), Loosening::Parameter)?;
+            Ok(Some(Notation::Any))
+        }
+        [class, _, _, field] => {
+            let notation = field_notation(r.scope, at.module, *class, *field);
+            if matches!(notation, Notation::Any) {
+                note(r, place_of(at), Loosening::OpenType)?;
+            }
+            Ok(Some(notation))
+        }
+        words if has_text(words, b"&") => {
+            note(r, place_of(at), Loosening::OpenType)?;
+            Ok(Some(Notation::Any))
+        }
+        _ => Ok(None),
+    }
+}

@@ -1,0 +1,273 @@
+//! Types in which no other type is, tags, and constraints of a notation.
+
+use crate::builtins::Builtin;
+use crate::constraints::{Names, constrain, constrain_list, loosening_of};
+use crate::cores::{BracesAt, TypeAt, braces_of, untagged};
+use crate::integers::{ANY_SIZE, UNBOUNDED};
+use crate::model::{Loosening, Notation, Place, Tag, TagClass, TagLayer, TagMode};
+use crate::problem::{Problem, ProblemKind, Stop, problem_at};
+use crate::resolver::{Resolver, environment, note};
+use crate::scope::Scope;
+use crate::tags::{automatic_layer, tag_layer};
+use crate::tags_of_types::is_untagged;
+use crate::tokens::is;
+use crate::values::number_of;
+use asn1_syntax::Token;
+use asn1_syntax::tree::{ListSize, PlainType, TagNotation, TypeNotation};
+
+// Whether braces are after the words of a type, and something is in them.
+fn has_items(plain: &PlainType<'_>) -> bool {
+    match &plain.braces {
+        Some(tokens) => !tokens.is_empty(),
+        None => false,
+    }
+}
+
+// The notation of a type that has a word of its own, and is no ENUMERATED.
+fn notation_of(builtin: Builtin, plain: &PlainType<'_>) -> Notation {
+    match builtin {
+        Builtin::Boolean => Notation::Boolean,
+        Builtin::Null => Notation::Null,
+        Builtin::Integer => Notation::Integer(UNBOUNDED),
+        Builtin::ObjectIdentifier => Notation::ObjectIdentifier,
+        Builtin::OctetString => Notation::OctetString(ANY_SIZE),
+        Builtin::BitString if has_items(plain) => Notation::NamedBits(ANY_SIZE),
+        Builtin::BitString => Notation::BitString(ANY_SIZE),
+        Builtin::Text(kind) => Notation::Text(kind, ANY_SIZE),
+        Builtin::UtcTime => Notation::UtcTime,
+        Builtin::GeneralizedTime => Notation::GeneralizedTime,
+        Builtin::Octets(number, _) => Notation::OctetsUnder(number),
+        Builtin::Elements(number) => Notation::ElementsUnder(number),
+        Builtin::Any | Builtin::Enumerated => Notation::Any,
+    }
+}
+
+// What a type that has a word of its own leaves out.
+fn loosening(builtin: Builtin) -> Option<Loosening> {
+    match builtin {
+        Builtin::Octets(_, what) => Some(what),
+        Builtin::Elements(_) => Some(Loosening::Contained),
+        _ => None,
+    }
+}
+
+/// The notation of a type that has a word of its own, and is no ENUMERATED.
+pub fn builtin_notation(
+    r: &mut Resolver<'_>,
+    module: usize,
+    word: Token<'_>,
+    builtin: Builtin,
+    plain: &PlainType<'_>,
+) -> Result<Notation, Stop> {
+    if let Some(what) = loosening(builtin) {
+        note(r, at(module, word), what)?;
+    }
+    Ok(notation_of(builtin, plain))
+}
+
+/// The place of a lexical item.
+pub fn at(module: usize, token: Token<'_>) -> Place {
+    Place {
+        module,
+        offset: token.offset,
+    }
+}
+
+// The class of a tag.
+fn class_of(tag: &TagNotation<'_>) -> TagClass {
+    match tag.class {
+        None => TagClass::ContextSpecific,
+        Some(word) if is(word, b"APPLICATION") => TagClass::Application,
+        Some(word) if is(word, b"PRIVATE") => TagClass::Private,
+        Some(_) => TagClass::Universal,
+    }
+}
+
+// The word IMPLICIT or EXPLICIT of a tag.
+fn written_mode(tag: &TagNotation<'_>) -> Option<TagMode> {
+    match tag.mode {
+        None => None,
+        Some(word) if is(word, b"IMPLICIT") => Some(TagMode::Implicit),
+        Some(_) => Some(TagMode::Explicit),
+    }
+}
+
+// The class and the number of a tag.
+fn tag_number<'a>(
+    scope: Scope<'a>,
+    module: usize,
+    tag: &'a TagNotation<'a>,
+) -> Result<Tag, Problem> {
+    let number = number_of(scope, module, tag.number)?;
+    if number.is_negative {
+        return Err(problem_at(module, tag.number, ProblemKind::TagNumber));
+    }
+    Ok(Tag {
+        class: class_of(tag),
+        number: number.magnitude,
+    })
+}
+
+/// The layer of a tag before a type, which is untagged or not.
+pub fn layer<'a>(
+    r: &Resolver<'a>,
+    module: usize,
+    tag: &'a TagNotation<'a>,
+    is_untagged: bool,
+) -> Result<TagLayer, Problem> {
+    let number = tag_number(r.scope, module, tag)?;
+    Ok(tag_layer(
+        environment(r, module),
+        number,
+        written_mode(tag),
+        is_untagged,
+    ))
+}
+
+/// A notation under a tag.
+pub fn tagged<'a>(
+    r: &Resolver<'a>,
+    module: usize,
+    tag: &'a TagNotation<'a>,
+    inner: Notation,
+) -> Result<Notation, Stop> {
+    let layer = layer(r, module, tag, is_untagged(r, &inner))?;
+    Ok(Notation::Tagged(layer, Box::new(r.alloc, inner)?))
+}
+
+/// A notation under the automatic tag of a number.
+pub fn automatically_tagged(
+    r: &Resolver<'_>,
+    number: usize,
+    inner: Notation,
+) -> Result<Notation, Stop> {
+    let layer = automatic_layer(number as u64, is_untagged(r, &inner));
+    Ok(Notation::Tagged(layer, Box::new(r.alloc, inner)?))
+}
+
+// Where the names in a constraint of a type are searched.
+fn names_of<'a>(scope: Scope<'a>, at: TypeAt<'a>) -> Names<'a> {
+    let found: BracesAt<'a> = braces_of(scope, at);
+    Names {
+        scope,
+        module: at.module,
+        braces_module: found.module,
+        braces: found.braces,
+    }
+}
+
+/// The place of the first of lexical items.
+pub fn first_place(module: usize, tokens: &[Token<'_>]) -> Place {
+    match tokens {
+        [first, ..] => at(module, *first),
+        [] => Place { module, offset: 0 },
+    }
+}
+
+/// A notation with the constraints after its type.
+pub fn constrained<'a>(
+    r: &mut Resolver<'a>,
+    at: TypeAt<'a>,
+    notation: Notation,
+    constraints: &'a [Vec<Token<'a>>],
+) -> Result<Notation, Stop> {
+    let mut constrained = notation;
+    let names = names_of(r.scope, at);
+    for constraint in constraints {
+        let tokens = constraint.as_slice();
+        if constrain(names, &mut constrained, tokens) {
+            note(r, first_place(at.module, tokens), loosening_of(tokens))?;
+        }
+    }
+    Ok(constrained)
+}
+
+// The lexical items of the constraint before OF.
+fn size_items<'a>(size: &'a ListSize<'a>) -> &'a [Token<'a>] {
+    match size {
+        ListSize::Any => &[],
+        ListSize::Size(tokens) | ListSize::Constraint(tokens) => tokens.as_slice(),
+    }
+}
+
+// Adds the constraint before OF to a list, and says whether the list accepts more.
+fn constrain_before_of<'a>(names: Names<'a>, list: &mut Notation, size: &'a ListSize<'a>) -> bool {
+    match size {
+        ListSize::Any => false,
+        ListSize::Size(tokens) => constrain_list(names, list, tokens.as_slice()),
+        ListSize::Constraint(tokens) => constrain(names, list, tokens.as_slice()),
+    }
+}
+
+// No lexical items.
+fn no_tokens<'a>() -> &'a [Token<'a>] {
+    &[]
+}
+
+// A list with the constraint before OF.
+fn sized<'a>(
+    r: &mut Resolver<'a>,
+    module: usize,
+    notation: Notation,
+    size: &'a ListSize<'a>,
+) -> Result<Notation, Stop> {
+    let mut list = notation;
+    let names = Names {
+        scope: r.scope,
+        module,
+        braces_module: module,
+        braces: no_tokens(),
+    };
+    if constrain_before_of(names, &mut list, size) {
+        let tokens = size_items(size);
+        note(r, first_place(module, tokens), loosening_of(tokens))?;
+    }
+    Ok(list)
+}
+
+/// A SEQUENCE OF or a SET OF.
+pub fn list_of<'a>(
+    r: &mut Resolver<'a>,
+    module: usize,
+    word: Token<'a>,
+    size: &'a ListSize<'a>,
+    element: Notation,
+) -> Result<Notation, Stop> {
+    let boxed = Box::new(r.alloc, element)?;
+    let list = if is(word, b"SET") {
+        Notation::SetOf(boxed, ANY_SIZE)
+    } else {
+        Notation::SequenceOf(boxed, ANY_SIZE)
+    };
+    sized(r, module, list, size)
+}
+
+// A type inside itself, without its tag.
+fn raw_notation<'a>(notation: &'a TypeNotation<'a>) -> Notation {
+    match untagged(notation) {
+        TypeNotation::ListOf(head, _) if is(head.word, b"SET") => Notation::ElementsUnder(17),
+        TypeNotation::ListOf(_, _) => Notation::ElementsUnder(16),
+        TypeNotation::Constructed(word, _) if is(*word, b"SET") => Notation::ElementsUnder(17),
+        TypeNotation::Constructed(word, _) if is(*word, b"SEQUENCE") => Notation::ElementsUnder(16),
+        _ => Notation::Any,
+    }
+}
+
+/// A type inside itself, whose elements are kept as they came under its outermost tag.
+pub fn recursive<'a>(
+    r: &mut Resolver<'a>,
+    place: Place,
+    inner: TypeAt<'a>,
+) -> Result<Notation, Stop> {
+    note(r, place, Loosening::Recursion)?;
+    let TypeNotation::Tagged(tag, _) = inner.notation else {
+        return Ok(raw_notation(inner.notation));
+    };
+    let number = tag_number(r.scope, inner.module, tag)?;
+    let layer = TagLayer {
+        class: number.class,
+        number: number.number,
+        mode: TagMode::Implicit,
+    };
+    Ok(Notation::Tagged(layer, Box::new(r.alloc, Notation::ElementsUnder(16))?))
+}

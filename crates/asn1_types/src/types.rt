@@ -1,0 +1,346 @@
+//! Types, of whatever depth.
+
+use crate::bodies::{body_of, extension_of, finished, layers, note_constraints, numbers_of};
+use crate::builtins::{Builtin, builtin_of};
+use crate::components::{WrittenPart, WrittenParts, written_parts};
+use crate::cores::{
+    TypeAt, assigned_type, braces, core, first_word, place_of, reference_meaning, unconstrained,
+    untagged,
+};
+use crate::enumerations::enumeration;
+use crate::model::{Body, Components, Notation, Part, Place};
+use crate::open_types::open_notation;
+use crate::plain::{at, builtin_notation, constrained, list_of, recursive, tagged};
+use crate::problem::{Problem, ProblemKind, Stop, problem_at};
+use crate::resolver::{Resolver, State, add_definition, begin, set_state, state_of, take_looser};
+use crate::scope::{AssignmentPlace, Meaning, assigned_name, assignment_at, parameters_of};
+use crate::tokens::is;
+use asn1_syntax::Token;
+use asn1_syntax::tree::{Component, Part as TreePart, PlainType, TypeNotation};
+
+/// How deep types nest at most, through names.
+pub const MAX_DEPTH: usize = 300;
+
+// The problem that types nest too deeply.
+fn too_deep(at: TypeAt<'_>) -> Stop {
+    Stop::Rejected(Problem {
+        place: place_of(at),
+        kind: ProblemKind::TooDeep,
+        other: None,
+    })
+}
+
+/// The notation of a type. What is declared inside it becomes definitions.
+#[cycle(types)]
+pub fn notation<'a>(r: &mut Resolver<'a>, at: TypeAt<'a>, depth: usize) -> Result<Notation, Stop> {
+    if depth == 0 {
+        return Err(too_deep(at));
+    }
+    match at.notation {
+        TypeNotation::Plain(plain) => plain_notation(r, at, plain, depth - 1),
+        TypeNotation::Tagged(tag, inner) => {
+            let inner = notation(r, inside(at, inner), depth - 1)?;
+            tagged(r, at.module, tag, inner)
+        }
+        TypeNotation::Selected(name, inner) => {
+            let chosen = selected(r, inside(at, inner), *name)?;
+            notation(r, chosen, depth - 1)
+        }
+        TypeNotation::ListOf(head, inner) => {
+            r.work.path.push(b"item")?;
+            let element = notation(r, inside(at, inner), depth - 1)?;
+            r.work.path.pop();
+            list_of(r, at.module, head.word, &head.size, element)
+        }
+        TypeNotation::Constructed(_, _) => {
+            let index = define(r, at, depth - 1)?;
+            Ok(Notation::Defined(index))
+        }
+        TypeNotation::Constrained(inner, constraints) => {
+            let unbounded = notation(r, inside(at, inner), depth - 1)?;
+            constrained(r, inside(at, inner), unbounded, constraints.as_slice())
+        }
+    }
+}
+
+// A type inside another one.
+fn inside<'a>(at: TypeAt<'a>, notation: &'a TypeNotation<'a>) -> TypeAt<'a> {
+    TypeAt {
+        module: at.module,
+        notation,
+    }
+}
+
+// The type of the alternative of a CHOICE that has a name (X.680, 29).
+fn selected<'a>(
+    r: &Resolver<'a>,
+    choice: TypeAt<'a>,
+    name: Token<'a>,
+) -> Result<TypeAt<'a>, Problem> {
+    let found = core(r.scope, choice, true)?;
+    let problem = problem_at(choice.module, name, ProblemKind::NoAlternative);
+    let TypeNotation::Constructed(word, components) = found.notation else {
+        return Err(problem);
+    };
+    if !is(*word, b"CHOICE") {
+        return Err(problem);
+    }
+    match named_type(components.as_slice(), name.text) {
+        Some(notation) => Ok(inside(found, notation)),
+        None => Err(problem),
+    }
+}
+
+// The type of the part that has a name.
+fn named_type<'a>(
+    components: &'a [Component<'a, TypeNotation<'a>>],
+    name: &[u8],
+) -> Option<&'a TypeNotation<'a>> {
+    for component in components {
+        if let TreePart::Named(token, notation, _) = &component.part
+            && is(*token, name)
+        {
+            return Some(notation);
+        }
+    }
+    None
+}
+
+// The notation of a type in which no other type is.
+#[cycle(types)]
+fn plain_notation<'a>(
+    r: &mut Resolver<'a>,
+    at: TypeAt<'a>,
+    plain: &'a PlainType<'a>,
+    depth: usize,
+) -> Result<Notation, Stop> {
+    let Some(word) = plain.words.first().copied() else {
+        return Err(too_deep(at));
+    };
+    if let Some(builtin) = builtin_of(word.text) {
+        if matches!(builtin, Builtin::Enumerated) {
+            let index = define_enumeration(r, at)?;
+            return Ok(Notation::Defined(index));
+        }
+        return builtin_notation(r, at.module, word, builtin, plain);
+    }
+    if let Some(open) = open_notation(r, at, plain)? {
+        return Ok(open);
+    }
+    match reference_meaning(r.scope, at.module, plain)? {
+        Meaning::Known(index) => Ok(Notation::Imported(index)),
+        Meaning::Assigned(place) => reference(r, at, place, depth),
+    }
+}
+
+// An ENUMERATED inside another type, as a definition.
+fn define_enumeration<'a>(r: &mut Resolver<'a>, at: TypeAt<'a>) -> Result<usize, Stop> {
+    let items = enumeration(r.alloc, r.scope, at.module, braces(at.notation))?;
+    let tags = Vec::new(r.alloc);
+    let looser = Vec::new(r.alloc);
+    add_definition(r, place_of(at), tags, Body::Enumerated(items), looser)
+}
+
+// The type that an assignment assigns.
+fn type_of<'a>(
+    r: &Resolver<'a>,
+    user: Place,
+    place: AssignmentPlace,
+) -> Result<TypeAt<'a>, Problem> {
+    match assigned_type(r.scope, place) {
+        Some(assigned) => Ok(assigned),
+        None => Err(Problem {
+            place: user,
+            kind: ProblemKind::WrongAssignment,
+            other: None,
+        }),
+    }
+}
+
+// The notation of a name that an assignment assigns.
+#[cycle(types)]
+fn reference<'a>(
+    r: &mut Resolver<'a>,
+    user: TypeAt<'a>,
+    place: AssignmentPlace,
+    depth: usize,
+) -> Result<Notation, Stop> {
+    let assigned = type_of(r, place_of(user), place)?;
+    if matches!(state_of(r, place), State::Unresolved) {
+        assign(r, place, assigned, depth)?;
+    }
+    match state_of(r, place) {
+        State::Defined(index) => Ok(Notation::Defined(index)),
+        State::Alias(index) => {
+            set_state(r, place, State::Open);
+            let notation = notation(r, assigned, depth)?;
+            set_state(r, place, State::Alias(index));
+            Ok(notation)
+        }
+        State::Open => {
+            let inner = core(r.scope, assigned, false)?;
+            recursive(r, place_of(user), inner)
+        }
+        State::Rejected | State::Unresolved => Err(Stop::Rejected(Problem {
+            place: place_of(user),
+            kind: ProblemKind::RejectedType,
+            other: None,
+        })),
+    }
+}
+
+// Resolves the assignment of a type.
+#[cycle(types)]
+pub fn assign<'a>(
+    r: &mut Resolver<'a>,
+    place: AssignmentPlace,
+    assigned: TypeAt<'a>,
+    depth: usize,
+) -> Result<(), Stop> {
+    let Some(assignment) = assignment_at(r.scope.modules, place) else {
+        return Ok(());
+    };
+    let name = assigned_name(assignment);
+    set_state(r, place, State::Open);
+    let before = begin(r, place, name.text, parameters_of(assignment))?;
+    let outcome = definition(r, assigned, at(place.module, name), depth);
+    r.work = before;
+    match outcome {
+        Ok(state) => set_state(r, place, state),
+        Err(Stop::Rejected(problem)) => {
+            set_state(r, place, State::Rejected);
+            r.problems.push(problem)?;
+        }
+        Err(Stop::Memory) => return Err(Stop::Memory),
+    }
+    Ok(())
+}
+
+// Whether a type that is no SEQUENCE, SET or CHOICE is declared as a type of Rust: a list, or a tag before a name of such a type.
+fn is_declared<'a>(r: &Resolver<'a>, at: TypeAt<'a>) -> bool {
+    match unconstrained(at.notation) {
+        TypeNotation::ListOf(_, _) => true,
+        TypeNotation::Tagged(_, _) => match core(r.scope, at, true) {
+            Ok(found) => matches!(
+                found.notation,
+                TypeNotation::ListOf(_, _) | TypeNotation::Constructed(_, _)
+            ),
+            Err(_) => false,
+        },
+        _ => false,
+    }
+}
+
+// The definition of an assigned type.
+#[cycle(types)]
+fn definition<'a>(
+    r: &mut Resolver<'a>,
+    at: TypeAt<'a>,
+    place: Place,
+    depth: usize,
+) -> Result<State, Stop> {
+    let inner = untagged(at.notation);
+    if let TypeNotation::Constructed(word, components) = inner {
+        let body = body(r, at.module, *word, components.as_slice(), depth)?;
+        return defined(r, at, place, body);
+    }
+    if is_enumerated(inner) {
+        let items = enumeration(r.alloc, r.scope, at.module, braces(inner))?;
+        return defined(r, at, place, Body::Enumerated(items));
+    }
+    let notation = notation(r, at, depth)?;
+    let tags = Vec::new(r.alloc);
+    let looser = take_looser(r);
+    if is_declared(r, at) {
+        let index = add_definition(r, place, tags, Body::Value(notation), looser)?;
+        return Ok(State::Defined(index));
+    }
+    let index = add_definition(r, place, tags, Body::Alias(notation), looser)?;
+    Ok(State::Alias(index))
+}
+
+// Whether a type is an ENUMERATED.
+fn is_enumerated(notation: &TypeNotation<'_>) -> bool {
+    match first_word(notation) {
+        Some(word) => is(word, b"ENUMERATED"),
+        None => false,
+    }
+}
+
+// Adds the definition of a type that has this body within its tags.
+fn defined<'a>(
+    r: &mut Resolver<'a>,
+    at: TypeAt<'a>,
+    place: Place,
+    body: Body<'a>,
+) -> Result<State, Stop> {
+    let tags = layers(r, at, matches!(body, Body::Choice(_)))?;
+    note_constraints(r, at)?;
+    let looser = take_looser(r);
+    let index = add_definition(r, place, tags, body, looser)?;
+    Ok(State::Defined(index))
+}
+
+// Adds the definition of a SEQUENCE, a SET or a CHOICE inside another type.
+#[cycle(types)]
+fn define<'a>(r: &mut Resolver<'a>, at: TypeAt<'a>, depth: usize) -> Result<usize, Stop> {
+    let TypeNotation::Constructed(word, components) = at.notation else {
+        return Err(too_deep(at));
+    };
+    let outer = take_looser(r);
+    let body = body(r, at.module, *word, components.as_slice(), depth)?;
+    let looser = take_looser(r);
+    r.work.looser = outer;
+    let tags = Vec::new(r.alloc);
+    add_definition(r, place_of(at), tags, body, looser)
+}
+
+// The body of a SEQUENCE, a SET or a CHOICE.
+#[cycle(types)]
+fn body<'a>(
+    r: &mut Resolver<'a>,
+    module: usize,
+    word: Token<'a>,
+    components: &'a [Component<'a, TypeNotation<'a>>],
+    depth: usize,
+) -> Result<Body<'a>, Stop> {
+    let written = written_parts(r.alloc, r.scope, module, components, MAX_DEPTH)?;
+    let parts = parts(r, module, &written, depth)?;
+    let extension = extension_of(r, module, &written);
+    body_of(r, at(module, word), word, Components { parts, extension })
+}
+
+// The parts in braces.
+#[cycle(types)]
+fn parts<'a>(
+    r: &mut Resolver<'a>,
+    module: usize,
+    written: &WrittenParts<'a>,
+    depth: usize,
+) -> Result<Vec<Part<'a>>, Stop> {
+    let numbers = numbers_of(r, module, written.parts.as_slice())?;
+    let mut parts = Vec::new(r.alloc);
+    for (source, number) in written.parts.iter().zip(numbers.iter()) {
+        let part = part(r, *source, *number, depth)?;
+        parts.push(part)?;
+    }
+    Ok(parts)
+}
+
+// A part, with an automatic tag if it has a number.
+#[cycle(types)]
+fn part<'a>(
+    r: &mut Resolver<'a>,
+    source: WrittenPart<'a>,
+    number: Option<usize>,
+    depth: usize,
+) -> Result<Part<'a>, Stop> {
+    r.work.path.push(source.name.text)?;
+    let at = TypeAt {
+        module: source.module,
+        notation: source.notation,
+    };
+    let notation = notation(r, at, depth)?;
+    r.work.path.pop();
+    finished(r, source, at, notation, number)
+}

@@ -1,0 +1,15 @@
+//! Tests of the crates that read modules of ASN.1.
+//!
+//! | Module | Holds |
+//! |---|---|
+//! | `described` | resolved types, described in one line each |
+//! | `syntax` | lexical items and trees of `asn1_syntax` |
+//! | `types` | what `asn1_types` resolves modules to |
+#![tactic(auto)]
+
+#[cfg(test)]
+mod described;
+#[cfg(test)]
+mod syntax;
+#[cfg(test)]
+mod types;

@@ -1,0 +1,203 @@
+//! What the types of modules are resolved to. The modules are written by hand; the clauses of X.680 are named beside them.
+
+use crate::described::described;
+use asn1_syntax::parse;
+use asn1_syntax::tree::Module;
+use asn1_types::model::{KnownType, Tag, TagClass};
+use asn1_types::resolve;
+use std::alloc::Global;
+use std::process::Abort;
+
+/// A source, and a line for each definition, constant and problem.
+type Row = (&'static [u8], &'static str);
+
+// Tags: the environment (30.6), IMPLICIT of an untagged CHOICE (30.8), and tags of all classes.
+static TAGS: [Row; 4] = [
+    (
+        b"M DEFINITIONS ::= BEGIN A ::= SEQUENCE { a [0] INTEGER, b [1] IMPLICIT NULL, c [2] EXPLICIT NULL } END",
+        "A. SEQUENCE a [0 E] INTEGER, b [1 I] NULL, c [2 E] NULL,\n",
+    ),
+    (
+        b"M DEFINITIONS IMPLICIT TAGS ::= BEGIN A ::= [APPLICATION 3] SEQUENCE { a [0] NULL, b [1] EXPLICIT NULL, c [2] C, d [3] IMPLICIT C, e [4] ANY } C ::= CHOICE { f NULL, g [PRIVATE 1] NULL } END",
+        "C. CHOICE f NULL, g [P1 I] NULL,\nA. [A3 I] SEQUENCE a [0 I] NULL, b [1 E] NULL, c [2 E] #0, d [3 E] #0, e [4 E] ANY,\n",
+    ),
+    (
+        b"M DEFINITIONS IMPLICIT TAGS ::= BEGIN A ::= [1] [2] CHOICE { b NULL } C ::= [3] A D ::= [4] INTEGER n INTEGER ::= 6 E ::= [n] SEQUENCE OF D END",
+        "A. [1 I] [2 E] CHOICE b NULL,\nC. of [3 I] #0\nD. = [4 I] INTEGER\nE. of [6 I] SEQUENCE OF [4 I] INTEGER\nn = 6\n",
+    ),
+    (
+        b"M DEFINITIONS ::= BEGIN A ::= CHOICE { a NULL, b B } B ::= CHOICE { c BOOLEAN, d NULL } C ::= SEQUENCE { e NULL OPTIONAL, f B } D ::= SEQUENCE { g ANY OPTIONAL, h NULL } END",
+        "B. CHOICE c BOOLEAN, d NULL,\n0:47: this part has the tag of another one at 39\n0:122: this part has the tag of another one at 105\n0:161: no tag distinguishes this part from another one at 145\n",
+    ),
+];
+
+// Automatic tags: without a tag (24.2 and 28.2), with one, through COMPONENTS OF (24.4), and after `...` (24.7).
+static AUTOMATIC_TAGS: [Row; 3] = [
+    (
+        b"M DEFINITIONS AUTOMATIC TAGS ::= BEGIN A ::= SEQUENCE { a NULL, b C, c SEQUENCE { d NULL } } C ::= CHOICE { e NULL, f NULL } END",
+        "C. CHOICE e [0 I] NULL, f [1 I] NULL,\nA.c. private SEQUENCE d [0 I] NULL,\nA. SEQUENCE a [0 I] NULL, b [1 E] #0, c [2 I] #1,\n",
+    ),
+    (
+        b"M DEFINITIONS AUTOMATIC TAGS ::= BEGIN A ::= SEQUENCE { a [5] NULL, b BOOLEAN } B ::= CHOICE { c NULL, d [6] NULL } END",
+        "A. SEQUENCE a [5 I] NULL, b BOOLEAN,\nB. CHOICE c NULL, d [6 I] NULL,\n",
+    ),
+    (
+        b"M DEFINITIONS AUTOMATIC TAGS ::= BEGIN A ::= SEQUENCE { a NULL, ..., b NULL, [[ c NULL ]], ..., COMPONENTS OF D } D ::= SEQUENCE { e [9] NULL, ..., f NULL } END",
+        "A. SEQUENCE a [0 I] NULL, +b [2 I] NULL, +c [3 I] NULL, e [1 I] [9 I] NULL, ...3\nD. SEQUENCE e [9 I] NULL, +f NULL, ...2\n",
+    ),
+];
+
+// Values: defaults (24.10), named numbers, ENUMERATED (20.3 to 20.6), and object identifiers (31).
+static VALUES: [Row; 3] = [
+    (
+        b"M DEFINITIONS AUTOMATIC TAGS ::= BEGIN A ::= SEQUENCE { a B DEFAULT b1, c BOOLEAN DEFAULT TRUE, d INTEGER DEFAULT -3, e E DEFAULT g, h INTEGER DEFAULT i, j OCTET STRING DEFAULT ''H } B ::= INTEGER { b1(7) } E ::= ENUMERATED { f, g } i INTEGER ::= k k INTEGER ::= 12 END",
+        "B. = INTEGER\nE. ENUMERATED f 0, g 1,\nA. SEQUENCE a [0 I] INTEGER DEFAULT 7, c [1 I] BOOLEAN DEFAULT TRUE, d [2 I] INTEGER DEFAULT -3, e [3 I] #1 DEFAULT g 1, h [4 I] INTEGER DEFAULT 12, j [5 I] OCTETS OPTIONAL, !default\nB.b1 = 7\ni = 12\nk = 12\n",
+    ),
+    (
+        b"M DEFINITIONS ::= BEGIN A ::= ENUMERATED { a, b(0), c, ..., d, e(9), f } B ::= BIT STRING { g(0), h(5) } C ::= ENUMERATED { i(1), j(1) } END",
+        "A. ENUMERATED a 1, b 0, c 2, +d 3, +e 9, +f 10, ...\nB. = NAMED BITS\nB.g = bit 0\nB.h = bit 5\n0:130: this number is that of another item at 124\n",
+    ),
+    (
+        b"M DEFINITIONS ::= BEGIN a OBJECT IDENTIFIER ::= { iso(1) member-body(2) 840 } b OBJECT IDENTIFIER ::= { a rsadsi(113549) n } n INTEGER ::= 1 c OBJECT IDENTIFIER ::= { joint-iso-itu-t ds(5) } t BOOLEAN ::= TRUE s UTF8String ::= \"x\" END",
+        "a = .1.2.840\nb = .1.2.840.113549.1\nn = 1\nc = .2.5\nt = TRUE\ns = x\n",
+    ),
+];
+
+// Constraints (49 to 52): sizes, ranges, unions, and those that are omitted.
+static CONSTRAINTS: [Row; 2] = [
+    (
+        b"M DEFINITIONS ::= BEGIN A ::= SEQUENCE SIZE (1..MAX) OF OCTET STRING (SIZE (4)) B ::= IA5String (SIZE (1..ub)) ub INTEGER ::= 64 C ::= INTEGER (MIN..-1) D ::= INTEGER (0 | 1 | 2..5) E ::= INTEGER (0..9, ...) F ::= C (-9..3) END",
+        "A. of SEQUENCE(1..) OF OCTETS(4..4)\nB. = IA5(1..64)\nC. = INTEGER(..-1)\nD. = INTEGER(0..5)\nE. = INTEGER\nF. = INTEGER(-9..-1)\nub = 64\n",
+    ),
+    (
+        b"M DEFINITIONS ::= BEGIN A ::= INTEGER (0 | 5) B ::= PrintableString (FROM (\"a\")) C ::= D (WITH COMPONENTS { ..., e ABSENT }) D ::= SEQUENCE { e NULL OPTIONAL } F ::= OCTET STRING (CONTAINING D) G ::= GeneralString H ::= EXTERNAL END",
+        "A. = INTEGER(0..5) !constraint\nB. = PRINTABLE !constraint\nD. SEQUENCE e NULL OPTIONAL,\nC. = #2 !inner\nF. = OCTETS !contents\nG. = OCTETS UNDER 27 !characters\nH. = ELEMENTS UNDER 8 !contained\n",
+    ),
+];
+
+// Names: imports and exports (13), types inside themselves, selections (29), and names that mean nothing.
+static NAMES: [Row; 4] = [
+    (
+        b"M DEFINITIONS ::= BEGIN IMPORTS A FROM N B FROM O; C ::= SEQUENCE { a A, b B, d O.A } END N DEFINITIONS ::= BEGIN EXPORTS A; A ::= SEQUENCE OF B B ::= NULL END O DEFINITIONS ::= BEGIN A ::= BOOLEAN B ::= SET OF A END",
+        "B. private = NULL\nA. of SEQUENCE OF NULL\nA. = BOOLEAN\nB. of SET OF BOOLEAN\nC. SEQUENCE a #1, b #3, d BOOLEAN,\n",
+    ),
+    (
+        b"M DEFINITIONS ::= BEGIN IMPORTS B FROM N; A ::= SEQUENCE { b B } C ::= D E ::= F F ::= E G ::= NULL G ::= NULL H ::= SEQUENCE { a A } END N DEFINITIONS ::= BEGIN EXPORTS ; B ::= NULL END",
+        "G. = NULL\nG. = NULL\nB. private = NULL\n0:61: this name is not exported by its module\n0:71: this name is neither assigned nor imported\n0:79: this name is defined by itself\n0:79: this type is rejected\n0:100: this name is assigned twice at 89\n0:130: this type is rejected\n",
+    ),
+    (
+        b"M DEFINITIONS ::= BEGIN A ::= SEQUENCE { a A OPTIONAL, b [0] IMPLICIT B OPTIONAL } B ::= [APPLICATION 1] SET { c B OPTIONAL } D ::= CHOICE { e SEQUENCE OF D } END",
+        "B. [A1 E] SET c [A1 I] ELEMENTS UNDER 16 OPTIONAL, !recursion\nA. SEQUENCE a ELEMENTS UNDER 16 OPTIONAL, b [0 I] #0 OPTIONAL, !recursion\nD. CHOICE e SEQUENCE OF ANY, !recursion\n",
+    ),
+    (
+        b"M DEFINITIONS ::= BEGIN A ::= SEQUENCE { a b < C } C ::= CHOICE { b UTCTime, d NULL } E ::= e < C F ::= SEQUENCE { f NULL, f BOOLEAN } G ::= CHOICE { } H ::= SEQUENCE { COMPONENTS OF C } END",
+        "A. SEQUENCE a UTC,\nC. CHOICE b UTC, d NULL,\n0:92: an alternative of a CHOICE is expected\n0:123: this name is that of another part at 115\n0:141: at least one alternative or item is expected\n0:183: a SEQUENCE or a SET is expected\n",
+    ),
+];
+
+// Open types (X.681, 14) and parameters (X.683).
+static OPEN: [Row; 2] = [
+    (
+        b"M DEFINITIONS AUTOMATIC TAGS ::= BEGIN C ::= CLASS { &id OBJECT IDENTIFIER UNIQUE, &Type OPTIONAL } WITH SYNTAX { ID &id } A { C:Set } ::= SEQUENCE { a C.&id ({Set}), b C.&Type ({Set}{@a}) OPTIONAL } B ::= SEQUENCE { c A {{d}} } e C ::= { ID {1 2 3} } END",
+        "A. SEQUENCE a [0 I] OID, b [1 E] ANY OPTIONAL, !constraint !open !constraint\nB. SEQUENCE c [0 I] #0,\n",
+    ),
+    (
+        b"M DEFINITIONS ::= BEGIN SIGNED { ToBeSigned, INTEGER:n } ::= SEQUENCE { a ToBeSigned, b INTEGER (0..n) } B ::= SIGNED { C, 3 } C ::= NULL END",
+        "SIGNED. SEQUENCE a ANY, b INTEGER, !parameter !constraint\nB. = #0\nC. = NULL\n",
+    ),
+];
+
+// Whether modules are resolved to these lines, over the known types.
+fn are_resolved_to<'a>(
+    alloc: Global,
+    modules: &'a [Module<'a>],
+    known: &'a [KnownType<'a>],
+    lines: &str,
+) -> bool {
+    match resolve(alloc, modules, known) {
+        Ok(resolved) => described(alloc, &resolved).text.as_str() == lines,
+        Err(_) => false,
+    }
+}
+
+// Whether a source is resolved to these lines, over the known types. Its modules are never freed, since they are lent for as long as it is.
+fn is_resolved_to<'a>(
+    alloc: Global,
+    source: &'a [u8],
+    known: &'a [KnownType<'a>],
+    lines: &str,
+) -> bool {
+    match parse(alloc, source) {
+        Ok(modules) => are_resolved_to(alloc, modules.leak(), known, lines),
+        Err(_) => false,
+    }
+}
+
+// The first source of rows that isn't resolved to its lines.
+fn first_other(
+    alloc: Global,
+    rows: &'static [Row],
+    known: &'static [KnownType<'static>],
+) -> Option<&'static [u8]> {
+    for (source, lines) in rows {
+        if !is_resolved_to(alloc, source, known, lines) {
+            return Some(source);
+        }
+    }
+    None
+}
+
+#[test]
+fn tags_are_resolved(rt: HostRuntime) {
+    assert!(rt; first_other(rt.alloc(), &TAGS, &[]).is_none());
+    assert!(rt; first_other(rt.alloc(), &AUTOMATIC_TAGS, &[]).is_none());
+}
+
+#[test]
+fn values_and_constraints_are_resolved(rt: HostRuntime) {
+    assert!(rt; first_other(rt.alloc(), &VALUES, &[]).is_none());
+    assert!(rt; first_other(rt.alloc(), &CONSTRAINTS, &[]).is_none());
+}
+
+#[test]
+fn names_are_resolved(rt: HostRuntime) {
+    assert!(rt; first_other(rt.alloc(), &NAMES, &[]).is_none());
+    assert!(rt; first_other(rt.alloc(), &OPEN, &[]).is_none());
+}
+
+static KNOWN: [KnownType<'static>; 1] = [KnownType {
+    module: b"Times",
+    name: b"Time",
+    tags: &[
+        Tag {
+            class: TagClass::Universal,
+            number: 23,
+        },
+        Tag {
+            class: TagClass::Universal,
+            number: 24,
+        },
+    ],
+    is_untagged: true,
+}];
+
+// Types that are imported from a known module.
+static IMPORTED: [Row; 3] = [
+    (
+        b"M DEFINITIONS IMPLICIT TAGS ::= BEGIN IMPORTS Time FROM Times; A ::= SEQUENCE { a [0] Time, b Time OPTIONAL, c Other.Time } END",
+        "0:117: this name is of a module that is not given\n",
+    ),
+    (
+        b"M DEFINITIONS IMPLICIT TAGS ::= BEGIN IMPORTS Time FROM Times; A ::= SEQUENCE { a [0] Time, b Time OPTIONAL, c Times.Time } END",
+        "0:109: this part has the tag of another one at 92\n",
+    ),
+    (
+        b"M DEFINITIONS IMPLICIT TAGS ::= BEGIN IMPORTS Time FROM Times; A ::= SEQUENCE { a [0] Time, b Time OPTIONAL } END",
+        "A. SEQUENCE a [0 E] @0, b @0 OPTIONAL,\n",
+    ),
+];
+
+#[test]
+fn known_types_are_imported(rt: HostRuntime) {
+    assert!(rt; first_other(rt.alloc(), &IMPORTED, &KNOWN).is_none());
+}
