@@ -1,0 +1,33 @@
+//! Of which types what BER reads is written in DER.
+
+use crate::terms::{TypeNames, is_canonical};
+use asn1_types::model::{Alternative, Body, Part};
+
+fn are_parts_canonical(parts: &[Part<'_>], names: &TypeNames) -> bool {
+    for part in parts {
+        if !is_canonical(&part.notation, names) {
+            return false;
+        }
+    }
+    true
+}
+
+fn are_alternatives_canonical(alternatives: &[Alternative<'_>], names: &TypeNames) -> bool {
+    for alternative in alternatives {
+        if !is_canonical(&alternative.notation, names) {
+            return false;
+        }
+    }
+    true
+}
+
+/// Whether what BER reads of a type is written in DER, where the types that it names are known.
+pub fn is_body_canonical(body: &Body<'_>, names: &TypeNames) -> bool {
+    match body {
+        Body::Sequence(components) => are_parts_canonical(components.parts.as_slice(), names),
+        Body::Set(_) => false,
+        Body::Choice(choice) => are_alternatives_canonical(choice.alternatives.as_slice(), names),
+        Body::Enumerated(_) => true,
+        Body::Value(notation) | Body::Alias(notation) => is_canonical(notation, names),
+    }
+}

@@ -1,0 +1,119 @@
+//! The constants of a crate: named numbers and bits, and values that modules assign.
+
+use crate::naming::is_used;
+use crate::text::Text;
+use crate::type_source::{CrateSource, Files};
+use crate::words::put_snake;
+use asn1_types::model::{Constant, Integer, Value};
+use std::alloc::{AllocError, Global};
+
+// The name of a constant: that of its type, if it is of one, and its own, in capitals.
+fn constant_name(alloc: Global, constant: &Constant<'_>) -> Text {
+    let mut text = Text::new(alloc);
+    if let Some(of) = constant.of {
+        put_snake(of, &mut text);
+        text.say("_");
+    }
+    put_snake(constant.name, &mut text);
+    let mut capitals = Text::new(alloc);
+    for octet in text.as_slice() {
+        capitals.put_octet(octet.to_ascii_uppercase());
+    }
+    capitals
+}
+
+// Appends the value of a number.
+fn put_integer(number: Integer, out: &mut Text) {
+    if number.is_negative {
+        out.say("i64 = -");
+    } else if number.magnitude > 9223372036854775807 {
+        out.say("u64 = ");
+    } else {
+        out.say("i64 = ");
+    }
+    out.put_number(number.magnitude);
+}
+
+// Appends arcs.
+fn put_arcs(arcs: &[u64], out: &mut Text) {
+    out.say("[u64; ");
+    out.put_number(arcs.len() as u64);
+    out.say("] = [");
+    let mut is_first = true;
+    for arc in arcs {
+        if !is_first {
+            out.say(", ");
+        }
+        is_first = false;
+        out.put_number(*arc);
+    }
+    out.say("]");
+}
+
+// Appends the type and the value of a constant.
+fn put_value(value: &Value<'_>, out: &mut Text) {
+    match value {
+        Value::Boolean(true) => out.say("bool = true"),
+        Value::Boolean(false) => out.say("bool = false"),
+        Value::Integer(number) => put_integer(*number, out),
+        Value::Bit(place) => {
+            out.say("usize = ");
+            out.put_number(*place);
+        }
+        Value::ObjectIdentifier(arcs) => put_arcs(arcs.as_slice(), out),
+        Value::Text(text) => {
+            out.say("&str = \"");
+            out.put(*text);
+            out.say("\"");
+        }
+    }
+}
+
+// Appends a constant.
+fn put_constant(constant: &Constant<'_>, name: &[u8], out: &mut Text) {
+    out.say("\n/// `");
+    out.put(constant.name);
+    if let Some(of) = constant.of {
+        out.say("` of `");
+        out.put(of);
+    }
+    out.say("`.\n");
+    out.say(match &constant.value {
+        Value::ObjectIdentifier(_) => "pub static ",
+        _ => "pub const ",
+    });
+    out.put(name);
+    out.say(": ");
+    put_value(&constant.value, out);
+    out.say(";\n");
+}
+
+/// Adds the file of constants, if there are any, and returns whether there are.
+pub fn add_constants(
+    alloc: Global,
+    source: &CrateSource<'_, '_>,
+    files: &mut Files,
+) -> Result<bool, AllocError> {
+    let mut names: Vec<Vec<u8>> = Vec::new(alloc);
+    let mut text = Text::new(alloc);
+    text.say(
+        "//! Named numbers, named bits and values of the modules. An object identifier is its arcs.\n",
+    );
+    for constant in source.constants {
+        let Some(name) = constant_name(alloc, constant).finish() else {
+            return Err(AllocError);
+        };
+        if is_used(names.as_slice(), name.as_slice()) {
+            continue;
+        }
+        put_constant(constant, name.as_slice(), &mut text);
+        if names.push(name).is_err() {
+            return Err(AllocError);
+        }
+    }
+    if names.is_empty() {
+        return Ok(false);
+    }
+    files.add("src/", b"constants", ".rt", text)?;
+    Ok(true)
+}

@@ -1,0 +1,153 @@
+//! The head of a source: the notation of the type, as the module has it.
+
+use crate::text::Text;
+use asn1_syntax::tree::{Assignment, Module};
+use asn1_syntax::{Token, lex};
+use asn1_types::model::{Body, Definition, Loosening, Looser};
+use std::alloc::Global;
+
+/// A module: its source, and its tree.
+#[derive(Clone, Copy)]
+pub struct ModuleSource<'a> {
+    /// The source.
+    pub source: &'a [u8],
+    /// The tree.
+    pub tree: &'a Module<'a>,
+}
+
+fn name_of<'a>(assignment: &Assignment<'a>) -> Token<'a> {
+    match assignment {
+        Assignment::Type(name, _)
+        | Assignment::Value(name, _, _)
+        | Assignment::ParameterizedType(name, _, _)
+        | Assignment::ParameterizedValue(name, _, _, _)
+        | Assignment::Class(name, _, _) => *name,
+    }
+}
+
+// The offset where an assignment begins, or that of the end.
+fn start_of(module: ModuleSource<'_>, assignment: usize) -> usize {
+    match module.tree.assignments.get(assignment) {
+        Some(found) => name_of(found).offset,
+        None => module.source.len(),
+    }
+}
+
+// The offset where the last lexical item before an offset ends, but for a last END.
+fn end_before(tokens: &[Token<'_>], limit: usize) -> usize {
+    let mut end = 0usize;
+    for token in tokens {
+        if token.offset >= limit || token.text == b"END".as_slice() {
+            break;
+        }
+        end = token.offset.saturating_add(token.text.len());
+    }
+    end
+}
+
+// The text of an assignment.
+fn assignment_text<'a>(alloc: Global, module: ModuleSource<'a>, assignment: usize) -> &'a [u8] {
+    let start = start_of(module, assignment);
+    let limit = start_of(module, assignment.saturating_add(1));
+    let Ok(tokens) = lex(alloc, module.source) else {
+        return b"";
+    };
+    let end = end_before(tokens.as_slice(), limit);
+    match module.source.get(start..end) {
+        Some(text) => text,
+        None => b"",
+    }
+}
+
+// Appends lines of a text as comments.
+fn put_lines(text: &[u8], out: &mut Text) {
+    out.say("//! ");
+    for octet in text {
+        match *octet {
+            b'\n' => out.say("\n//! "),
+            b'\t' => out.say("    "),
+            b'\r' => {}
+            other => out.put_octet(other),
+        }
+    }
+    out.say("\n");
+}
+
+/// Why a type accepts more than its module says.
+pub fn looser_text(what: Loosening) -> &'static str {
+    match what {
+        Loosening::Constraint => "a constraint isn't tested",
+        Loosening::InnerConstraint => "a constraint of components isn't tested",
+        Loosening::Contents => "the contents of a string aren't read",
+        Loosening::OpenType => "an open type is any element",
+        Loosening::Parameter => "a parameter isn't applied",
+        Loosening::Default => "a part with a default may be encoded though it is the default",
+        Loosening::Recursion => "a type inside itself is read as it came",
+        Loosening::Characters => "the characters of a string aren't read",
+        Loosening::Contained => "the contents of a value aren't read",
+    }
+}
+
+// Appends what a type leaves out of its module.
+fn put_looser(looser: &[Looser], out: &mut Text) {
+    if looser.is_empty() {
+        return;
+    }
+    out.say("//!\n//! It accepts more than the module says:\n//!\n");
+    for one in looser {
+        out.say("//! - ");
+        out.say(looser_text(one.what));
+        out.say(".\n");
+    }
+}
+
+// What a type has that its source leaves out.
+fn missing_text(body: &Body<'_>) -> &'static str {
+    match body {
+        Body::Set(_) =>
+            "//!\n//! The components of this SET aren't read: its elements are as they came.\n",
+        Body::Sequence(components) if components.extension.is_some() => {
+            "//!\n//! An element that a later version may add is rejected.\n"
+        }
+        Body::Choice(choice) if choice.is_extensible => {
+            "//!\n//! An alternative that a later version may add is rejected.\n"
+        }
+        _ => "",
+    }
+}
+
+/// Appends the path of a type: its name, and for a type inside another one the components that lead to it.
+pub fn put_path(path: &[&[u8]], out: &mut Text) {
+    let mut is_first = true;
+    for name in path {
+        if !is_first {
+            out.say(".");
+        }
+        is_first = false;
+        out.put(*name);
+    }
+}
+
+/// Appends the head of the source of a type.
+pub fn put_head(
+    alloc: Global,
+    modules: &[ModuleSource<'_>],
+    definition: &Definition<'_>,
+    out: &mut Text,
+) {
+    out.say("//! `");
+    put_path(definition.path.as_slice(), out);
+    out.say("`");
+    let Some(module) = modules.get(definition.place.module) else {
+        out.say(".\n");
+        return;
+    };
+    let tree = module.tree;
+    out.say(" of the module ");
+    out.put(tree.name.text);
+    out.say(".\n//!\n//! ```text\n");
+    put_lines(assignment_text(alloc, *module, definition.assignment), out);
+    out.say("//! ```\n");
+    out.say(missing_text(&definition.body));
+    put_looser(definition.looser.as_slice(), out);
+}

@@ -1,0 +1,38 @@
+//! Sources of Rust over `yasna_notation` for the types of ASN.1 modules.
+#![tactic(auto)]
+
+mod alternatives;
+mod canonical;
+mod choice_source;
+mod constants;
+mod crate_source;
+mod defaults;
+mod enumeration_source;
+mod forms;
+mod head;
+mod import_table;
+mod imports;
+mod known;
+mod naming;
+mod order;
+mod parts;
+mod parts_source;
+mod reach;
+mod sequence_source;
+mod shapes;
+mod template;
+mod templates;
+mod terms;
+mod text;
+mod type_imports;
+mod type_source;
+mod value_source;
+mod words;
+
+pub use crate_source::{crate_line, list_of, names_of, sources_of};
+pub use head::{ModuleSource, looser_text};
+pub use known::{known_names, known_types};
+pub use reach::reached;
+pub use terms::{TypeName, TypeNames};
+pub use text::Text;
+pub use type_source::{CrateSource, SourceFile, source_of};

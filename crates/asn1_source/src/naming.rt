@@ -1,0 +1,219 @@
+//! The names of types, files, fields and variants: those of the module, and different from all others beside them.
+
+use crate::terms::{TypeName, is_canonical};
+use crate::text::Text;
+use crate::words::{is_reserved, is_taken, put_camel, put_snake};
+use asn1_types::model::{Alternative, Body, Definition, Part};
+use std::alloc::{AllocError, Global};
+
+/// Whether a name is in a list.
+pub fn is_used(names: &[Vec<u8>], name: &[u8]) -> bool {
+    for known in names {
+        if known.as_slice() == name {
+            return true;
+        }
+    }
+    false
+}
+
+// Appends 2 to a name until it differs from those before it.
+fn distinct(names: &[Vec<u8>], mut name: Text) -> Text {
+    for _ in 0..names.len() {
+        if is_used(names, name.as_slice()) {
+            name.say("2");
+        }
+    }
+    name
+}
+
+// The name of a type: that of the module, as Rust writes names of types.
+fn type_text(alloc: Global, path: &[&[u8]]) -> Text {
+    let mut text = Text::new(alloc);
+    for name in path {
+        put_camel(*name, &mut text);
+    }
+    if is_taken(text.as_slice()) {
+        text.say("Type");
+    }
+    text
+}
+
+// The name of a file: that of the module, as Rust writes names of modules.
+fn file_text(alloc: Global, path: &[&[u8]]) -> Text {
+    let mut text = Text::new(alloc);
+    for name in path {
+        if !text.as_slice().is_empty() {
+            text.say("_");
+        }
+        put_snake(*name, &mut text);
+    }
+    if is_file_taken(text.as_slice()) {
+        text.say("_type");
+    }
+    text
+}
+
+// What the names of laws of the library's types begin with.
+static LAW_NAMES: [&str; 22] = [
+    "any",
+    "big",
+    "bits",
+    "bmp",
+    "constants",
+    "enumerated",
+    "flag",
+    "general",
+    "ia5",
+    "int32",
+    "int64",
+    "named",
+    "named_bits",
+    "null",
+    "number",
+    "number32",
+    "numeric",
+    "octets",
+    "oid",
+    "printable",
+    "text",
+    "utc",
+];
+
+// Whether a file can't have a name.
+fn is_file_taken(name: &[u8]) -> bool {
+    for word in LAW_NAMES.as_slice() {
+        if word.as_bytes() == name {
+            return true;
+        }
+    }
+    is_reserved(name)
+}
+
+fn is_enumeration(body: &Body<'_>) -> bool {
+    match body {
+        Body::Enumerated(_) => true,
+        _ => false,
+    }
+}
+
+/// The names that types have got.
+#[derive(Drop)]
+pub struct UsedNames {
+    alloc: Global,
+    types: Vec<Vec<u8>>,
+    files: Vec<Vec<u8>>,
+}
+
+impl UsedNames {
+    /// No names.
+    pub fn new(alloc: Global) -> UsedNames {
+        UsedNames {
+            alloc,
+            types: Vec::new(alloc),
+            files: Vec::new(alloc),
+        }
+    }
+
+    // Takes a name for a type.
+    fn take_type(&mut self, path: &[&[u8]]) -> Result<Vec<u8>, AllocError> {
+        let text = distinct(self.types.as_slice(), type_text(self.alloc, path));
+        keep(&mut self.types, self.alloc, text)
+    }
+
+    // Takes a name for a file.
+    fn take_file(&mut self, path: &[&[u8]]) -> Result<Vec<u8>, AllocError> {
+        let text = distinct(self.files.as_slice(), file_text(self.alloc, path));
+        keep(&mut self.files, self.alloc, text)
+    }
+
+    /// The names of a definition.
+    pub fn name(&mut self, definition: &Definition<'_>) -> Result<TypeName, AllocError> {
+        let name = self.take_type(definition.path.as_slice())?;
+        let file = self.take_file(definition.path.as_slice())?;
+        let law = Vec::from_slice(self.alloc, file.as_slice())?;
+        Ok(TypeName {
+            name,
+            file,
+            origin: None,
+            law,
+            is_enumeration: is_enumeration(&definition.body),
+            is_canonical: false,
+        })
+    }
+}
+
+// Keeps a name, and returns it.
+fn keep(names: &mut Vec<Vec<u8>>, alloc: Global, text: Text) -> Result<Vec<u8>, AllocError> {
+    let Some(name) = text.finish() else {
+        return Err(AllocError);
+    };
+    let copy = Vec::from_slice(alloc, name.as_slice())?;
+    match names.push(copy) {
+        Ok(()) => Ok(name),
+        Err(_) => Err(AllocError),
+    }
+}
+
+// The name of a field: that of the component, as Rust writes names of fields.
+fn field_text(alloc: Global, name: &[u8]) -> Text {
+    let mut text = Text::new(alloc);
+    put_snake(name, &mut text);
+    if !is_reserved(text.as_slice()) {
+        return text;
+    }
+    let mut other = Text::new(alloc);
+    other.say("the_");
+    other.put(text.as_slice());
+    other
+}
+
+/// The names of the fields of parts.
+pub fn field_names(alloc: Global, parts: &[Part<'_>]) -> Result<Vec<Vec<u8>>, AllocError> {
+    let mut names = Vec::new(alloc);
+    for part in parts {
+        let text = distinct(names.as_slice(), field_text(alloc, part.name));
+        keep(&mut names, alloc, text)?;
+    }
+    Ok(names)
+}
+
+// The name of a variant: that of the alternative, as Rust writes names of variants.
+fn variant_text(alloc: Global, name: &[u8]) -> Text {
+    let mut text = Text::new(alloc);
+    put_camel(name, &mut text);
+    if text.as_slice() == b"Self".as_slice() {
+        text.say("Variant");
+    }
+    text
+}
+
+/// The names of the variants of alternatives.
+pub fn variant_names(
+    alloc: Global,
+    alternatives: &[Alternative<'_>],
+) -> Result<Vec<Vec<u8>>, AllocError> {
+    let mut names = Vec::new(alloc);
+    for alternative in alternatives {
+        let text = distinct(names.as_slice(), variant_text(alloc, alternative.name));
+        keep(&mut names, alloc, text)?;
+    }
+    Ok(names)
+}
+
+/// The names of the variants of an ENUMERATED, and `Other` if it is extensible.
+pub fn item_names(
+    alloc: Global,
+    items: &[asn1_types::model::EnumerationItem<'_>],
+    is_extensible: bool,
+) -> Result<Vec<Vec<u8>>, AllocError> {
+    let mut names = Vec::new(alloc);
+    for item in items {
+        let text = distinct(names.as_slice(), variant_text(alloc, item.name));
+        keep(&mut names, alloc, text)?;
+    }
+    if is_extensible {
+        let text = distinct(names.as_slice(), variant_text(alloc, b"other"));
+        keep(&mut names, alloc, text)?;
+    }
+    Ok(names)
+}

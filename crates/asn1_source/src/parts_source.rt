@@ -1,0 +1,220 @@
+//! The sources of the parts of a long SEQUENCE: those after the first ones have a file and a name of their own.
+
+use crate::parts::{HELD, VALUES, put_parts};
+use crate::sequence_source::{RestName, first_of, set_all, set_references, set_run_texts};
+use crate::template::Fragments;
+use crate::templates::{CANONICAL_PARTS_IMPL, PARTS_IMPLS};
+use crate::terms::TypeName;
+use crate::text::Text;
+use crate::type_source::{CrateSource, Files, put_source, rest_clauses, rest_code};
+use asn1_types::model::{Part, Presence};
+use std::alloc::{AllocError, Global};
+
+// The most parts of one file, and the most among them that may be absent.
+const MOST_PARTS: usize = 6;
+
+const MOST_ABSENT: usize = 3;
+
+fn may_be_absent(part: &Part<'_>) -> bool {
+    match &part.presence {
+        Presence::Required => false,
+        _ => true,
+    }
+}
+
+/// How many of these parts one file holds.
+pub fn first_run(parts: &[Part<'_>]) -> usize {
+    let mut count = 0usize;
+    let mut absent = 0usize;
+    for part in parts {
+        if may_be_absent(part) {
+            absent = absent.saturating_add(1);
+        }
+        if count == MOST_PARTS || absent > MOST_ABSENT {
+            return count;
+        }
+        count = count.saturating_add(1);
+    }
+    count
+}
+
+// The name of the parts from a place on.
+fn name_of_rest(alloc: Global, name: &TypeName, place: usize) -> Result<RestName, AllocError> {
+    let mut text = Text::new(alloc);
+    text.put(name.name.as_slice());
+    text.say("Parts");
+    text.put_number(place as u64);
+    let mut file = Text::new(alloc);
+    file.put(name.file.as_slice());
+    file.say("_parts");
+    file.put_number(place as u64);
+    match (text.finish(), file.finish()) {
+        (Some(name), Some(file)) => Ok(RestName { name, file }),
+        _ => Err(AllocError),
+    }
+}
+
+// The source of parts by a name.
+fn rest_source(
+    alloc: Global,
+    source: &CrateSource<'_, '_>,
+    whole: &TypeName,
+    own: &RestName,
+    rest: &RestName,
+    count: usize,
+    parts: &[Part<'_>],
+    fields: &[Vec<u8>],
+) -> Text {
+    let mut fragments = Fragments::new(alloc);
+    fragments.set_octets(b'K', source.krate);
+    fragments.set_octets(b'R', own.name.as_slice());
+    fragments.set_octets(b'O', whole.name.as_slice());
+    fragments.set_octets(b'y', rest.file.as_slice());
+    fragments.set_octets(b'Y', rest.name.as_slice());
+    let (first, theirs) = (first_of(parts, count), first_of(fields, count));
+    set_run_texts(alloc, &mut fragments, first, theirs, rest, source.names);
+    set_references(
+        &mut fragments,
+        b'E',
+        first,
+        theirs,
+        rest,
+        "*value",
+        source.names,
+    );
+    set_all(&mut fragments, b'H', &HELD, parts, fields, source.names);
+    fragments.set_filled(b'V', "@U");
+    fragments.set_term(b'7', "@Q", 25);
+    fragments.set_term(b'8', "@X", 25);
+    finished(alloc, source, whole, !rest.name.is_empty(), &fragments)
+}
+
+// The source of parts whose marks are set.
+fn finished(
+    alloc: Global,
+    source: &CrateSource<'_, '_>,
+    whole: &TypeName,
+    has_rest: bool,
+    fragments: &Fragments,
+) -> Text {
+    let mut body = Text::new(alloc);
+    fragments.fill("type Each = @T;\n", &mut body);
+    fragments.fill(PARTS_IMPLS, &mut body);
+    if whole.is_canonical {
+        fragments.fill(CANONICAL_PARTS_IMPL, &mut body);
+    }
+    let mut clauses = Text::new(alloc);
+    fragments.fill(rest_clauses(has_rest, whole.is_canonical), &mut clauses);
+    let mut code = Text::new(alloc);
+    fragments.fill(rest_code(has_rest), &mut code);
+    let mut text = Text::new(alloc);
+    fragments.fill(
+        "//! Parts of `@O`, by one name: what the whole requires of them is proved here once.\n",
+        &mut text,
+    );
+    put_source(
+        alloc,
+        source,
+        b"",
+        clauses.as_slice(),
+        code.as_slice(),
+        &body,
+        &mut text,
+    );
+    text
+}
+
+// What is after the first of some parts.
+fn skipped<'p, 'a>(parts: &'p [Part<'a>], count: usize) -> &'p [Part<'a>] {
+    let (_, others) = parts.split_at(count.min(parts.len()));
+    others
+}
+
+// How many parts each file holds.
+fn counts_of(alloc: Global, parts: &[Part<'_>]) -> Result<Vec<usize>, AllocError> {
+    let mut counts = Vec::new(alloc);
+    let mut rest = parts;
+    for _ in 0..parts.len() {
+        let count = first_run(rest);
+        if counts.push(count).is_err() {
+            return Err(AllocError);
+        }
+        rest = skipped(rest, count);
+        if rest.is_empty() {
+            break;
+        }
+    }
+    Ok(counts)
+}
+
+// No parts follow.
+fn no_rest(alloc: Global) -> RestName {
+    RestName {
+        name: Vec::new(alloc),
+        file: Vec::new(alloc),
+    }
+}
+
+// Adds the file of the parts from a place on, and returns its name.
+fn add_rest(
+    alloc: Global,
+    source: &CrateSource<'_, '_>,
+    whole: &TypeName,
+    rest: &RestName,
+    number: usize,
+    count: usize,
+    parts: &[Part<'_>],
+    fields: &[Vec<u8>],
+    files: &mut Files,
+) -> Result<RestName, AllocError> {
+    let own = name_of_rest(alloc, whole, number)?;
+    let text = rest_source(alloc, source, whole, &own, rest, count, parts, fields);
+    files.add("src/", own.file.as_slice(), ".rt", text)?;
+    Ok(own)
+}
+
+// The sum of the first numbers.
+fn sum_of(counts: &[usize]) -> usize {
+    let mut sum = 0usize;
+    for count in counts {
+        sum = sum.saturating_add(*count);
+    }
+    sum
+}
+
+/// Adds the files of the parts of a SEQUENCE after the first ones, and returns what the first ones name.
+pub fn put_rests(
+    alloc: Global,
+    source: &CrateSource<'_, '_>,
+    whole: &TypeName,
+    parts: &[Part<'_>],
+    fields: &[Vec<u8>],
+    files: &mut Files,
+) -> Result<RestName, AllocError> {
+    let counts = counts_of(alloc, parts)?;
+    let mut rest = no_rest(alloc);
+    for back in 1..counts.len() {
+        let place = counts.len() - back;
+        let start = sum_of(first_of(counts.as_slice(), place));
+        let count = match counts.get(place) {
+            Some(count) => *count,
+            None => 0,
+        };
+        let (Some(all), Some(names)) = (parts.get(start..), fields.get(start..)) else {
+            continue;
+        };
+        let own = add_rest(
+            alloc,
+            source,
+            whole,
+            &rest,
+            place.saturating_add(1),
+            count,
+            all,
+            names,
+            files,
+        )?;
+        rest = own;
+    }
+    Ok(rest)
+}

@@ -1,0 +1,205 @@
+//! The source of a SEQUENCE.
+
+use crate::parts::*;
+use crate::template::Fragments;
+use crate::templates::{Bodies, EXPLICIT_BODIES, IMPLICIT_BODIES, SEQUENCE_BODIES};
+use crate::terms::{Aspect, TypeNames, put_under};
+use crate::text::Text;
+use asn1_types::model::{Part, TagClass, TagLayer, TagMode};
+use std::alloc::Global;
+
+/// The name of the parts that follow those of a file, and that of their file. Both are empty if none follow.
+#[derive(Drop)]
+pub struct RestName {
+    /// The name.
+    pub name: Vec<u8>,
+    /// The file.
+    pub file: Vec<u8>,
+}
+
+// The end of a listing, or the name of the parts that follow.
+fn end_of(
+    alloc: Global,
+    rest: &RestName,
+    listing: &'static Listing,
+    before: &str,
+    after: &str,
+    of_file: bool,
+) -> Text {
+    let mut text = Text::new(alloc);
+    if rest.name.is_empty() {
+        text.say(listing.end);
+        return text;
+    }
+    text.say(before);
+    if of_file {
+        text.put(rest.file.as_slice());
+    } else {
+        text.put(rest.name.as_slice());
+    }
+    text.say(after);
+    text
+}
+
+// Sets a mark to parts as a listing says, before this end.
+fn set_listed(
+    fragments: &mut Fragments,
+    mark: u8,
+    listing: &'static Listing,
+    parts: &[Part<'_>],
+    fields: &[Vec<u8>],
+    end: &Text,
+    names: &TypeNames,
+) {
+    let mut text = fragments.text();
+    put_parts(listing, parts, fields, end.as_slice(), names, &mut text);
+    fragments.set(mark, text);
+}
+
+/// Sets `T` to the notations of parts, `U` for its values, `Q` for the term of its law and `X` for that of its law of writing.
+pub fn set_run_texts(
+    alloc: Global,
+    fragments: &mut Fragments,
+    parts: &[Part<'_>],
+    fields: &[Vec<u8>],
+    rest: &RestName,
+    names: &TypeNames,
+) {
+    let end = end_of(alloc, rest, &NOTATIONS, "", "", false);
+    set_listed(fragments, b'T', &NOTATIONS, parts, fields, &end, names);
+    let end = end_of(alloc, rest, &VALUES, "", "Fields", false);
+    set_listed(fragments, b'U', &VALUES, parts, fields, &end, names);
+    let end = end_of(alloc, rest, &LAW, "(", "_parts refl)", true);
+    set_listed(fragments, b'Q', &LAW, parts, fields, &end, names);
+    let end = end_of(alloc, rest, &WRITTEN, "(", "_written refl)", true);
+    set_listed(fragments, b'X', &WRITTEN, parts, fields, &end, names);
+}
+
+/// Sets a mark to the references to the fields of parts, before this text if others follow.
+pub fn set_references(
+    fragments: &mut Fragments,
+    mark: u8,
+    parts: &[Part<'_>],
+    fields: &[Vec<u8>],
+    rest: &RestName,
+    whole: &str,
+    names: &TypeNames,
+) {
+    let mut end = fragments.text();
+    end.say(if rest.name.is_empty() {
+        REFERENCES.end
+    } else {
+        whole
+    });
+    set_listed(fragments, mark, &REFERENCES, parts, fields, &end, names);
+}
+
+/// Sets a mark to all parts as a listing says.
+pub fn set_all(
+    fragments: &mut Fragments,
+    mark: u8,
+    listing: &'static Listing,
+    parts: &[Part<'_>],
+    fields: &[Vec<u8>],
+    names: &TypeNames,
+) {
+    let mut text = fragments.text();
+    put_parts(
+        listing,
+        parts,
+        fields,
+        listing.end.as_bytes(),
+        names,
+        &mut text,
+    );
+    fragments.set(mark, text);
+}
+
+// Appends the name of a tag in code.
+fn put_tag_name(tag: TagLayer, out: &mut Text) {
+    out.say(match tag.class {
+        TagClass::Universal => "Universal<",
+        TagClass::Application => "Application<",
+        TagClass::ContextSpecific => "Context<",
+        TagClass::Private => "Private<",
+    });
+    out.put_number(tag.number);
+    out.say(">");
+}
+
+/// How the fields of a SEQUENCE under a tag are written.
+pub fn bodies_of(tags: &[TagLayer], fragments: &mut Fragments) -> &'static Bodies {
+    let Some(tag) = tags.first() else {
+        return &SEQUENCE_BODIES;
+    };
+    let mut name = fragments.text();
+    put_tag_name(*tag, &mut name);
+    fragments.set(b't', name);
+    match tag.mode {
+        TagMode::Implicit => &IMPLICIT_BODIES,
+        TagMode::Explicit => &EXPLICIT_BODIES,
+    }
+}
+
+// The notation of a SEQUENCE under tags, and the terms of its laws.
+fn set_whole(tags: &[TagLayer], fragments: &mut Fragments) {
+    let mut text = fragments.text();
+    put_under(tags, Aspect::Notation, b"Sequence<Parts>", &mut text);
+    fragments.set(b'W', text);
+    fragments.set_filled(b'q', "(in_sequence @Q)");
+    fragments.set_filled(b'x', "(sequence_written @X)");
+    let mut law = fragments.text();
+    put_under(tags, Aspect::Law, fragments.get(b'q'), &mut law);
+    fragments.set(b'L', law);
+    let mut written = fragments.text();
+    put_under(tags, Aspect::Written, fragments.get(b'x'), &mut written);
+    fragments.set(b'C', written);
+}
+
+/// The first of some items.
+pub fn first_of<T>(items: &[T], count: usize) -> &[T] {
+    match items.get(..count) {
+        Some(first) => first,
+        None => items,
+    }
+}
+
+/// Sets the marks of a source to those of a SEQUENCE, whose first parts are in its own file.
+pub fn set_sequence(
+    alloc: Global,
+    fragments: &mut Fragments,
+    count: usize,
+    rest: &RestName,
+    parts: &[Part<'_>],
+    fields: &[Vec<u8>],
+    tags: &[TagLayer],
+    names: &TypeNames,
+) {
+    let (first, theirs) = (first_of(parts, count), first_of(fields, count));
+    set_run_texts(alloc, fragments, first, theirs, rest, names);
+    set_references(fragments, b'R', first, theirs, rest, "value", names);
+    set_all(fragments, b'D', &FIELDS, parts, fields, names);
+    set_all(fragments, b'o', &VALUE_OF, parts, fields, names);
+    fragments.set_filled(b'v', "λ v. @o");
+    set_all(fragments, b'P', &PATTERN, parts, fields, names);
+    set_all(fragments, b'n', &NAMES, parts, fields, names);
+    set_whole(tags, fragments);
+    fragments.set_octets(b'V', b"Fields");
+    fragments.set_filled(
+        b'A',
+        "type Parts = @T;\n\ntype Fields = @U;\n\ntype Notated = @W;\n\n",
+    );
+    fragments.set_filled(b'S', "#[derive(Drop)]\npub struct @N {\n@D}\n");
+    fragments.set_filled(b'f', "@N { @n}");
+    fragments.set_octets(b'M', "λ u m v. element_non_empty _ _ _ _".as_bytes());
+    let bodies = bodies_of(tags, fragments);
+    set_bodies(bodies, fragments);
+}
+
+/// Sets `w`, `p`, `l` and `c` to bodies.
+pub fn set_bodies(bodies: &'static Bodies, fragments: &mut Fragments) {
+    fragments.set_filled(b'w', bodies.write);
+    fragments.set_filled(b'p', bodies.prepend);
+    fragments.set_filled(b'l', bodies.len);
+    fragments.set_filled(b'c', bodies.accepts);
+}

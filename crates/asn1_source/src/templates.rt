@@ -1,0 +1,302 @@
+//! The texts of sources, with marks.
+//!
+//! | Mark | Represents |
+//! |---|---|
+//! | `@N` | the name of the type |
+//! | `@V` | the type that its values represent |
+//! | `@v` | the value that one represents |
+//! | `@P`, `@f` | a pattern of that value, and what is made of it |
+//! | `@w`, `@p`, `@l`, `@c` | how it is written and prepended, its length, and whether it can be written |
+//! | `@7`, `@8`, `@9` | the terms of its law, of its law of writing, and that no encoding is empty |
+//! | `@R` | references to the fields |
+//! | `@t` | the tag of a SEQUENCE |
+
+/// The impls of a type.
+pub static IMPLS: &str = "
+impl Represents<@V> for @N {
+    ghost value_of = { @v };
+
+    fn from_value(@P: @V) -> @N {
+        @f
+    }
+}
+
+impl Notation for @N {
+    type Value = @N;
+
+    type Inner = ();
+
+    ghost means = { represented_by ⟦<@N as Represents<@V>>⟧.value_of ⟦<Notated as Notation>⟧.means };
+
+    fn has_tag(tag: Tag) -> bool {
+        <Notated as Notation>::has_tag(tag)
+    }
+
+    fn read(reader: BERReader) -> ASN1Result<@N> {
+        read_as::<Notated, @N>(reader)
+    }
+
+    fn write(value: &@N, writer: DERWriter<'_>) -> ASN1Result<()> {
+        @w
+    }
+
+    fn prepend(value: &@N, under: Option<Tag>, out: &mut PrependBuffer) -> ASN1Result<()> {
+        @p
+    }
+
+    fn encoded_len(value: &@N, under: Option<Tag>, mode: BERMode) -> Option<usize> {
+        @l
+    }
+
+    ghost lawful = { λ _. represented_lawful ⟦<@N as Represents<@V>>⟧.value_of @7 };
+
+    ghost non_empty = { @9 };
+}
+
+impl Message for @N {
+    ghost is_unambiguous = { refl };
+}
+";
+
+/// The impl of a type of which what BER reads is written in DER.
+pub static CANONICAL_IMPL: &str = "
+impl CanonicalNotation for @N {
+    ghost written = { λ _. represented_written ⟦<@N as Represents<@V>>⟧.value_of @8 };
+}
+";
+
+/// The impl that tests whether a value can be written.
+pub static CHECKED_IMPL: &str = "
+impl Checked for @N {
+    fn accepts(value: &@N) -> bool {
+        @c
+    }
+}
+";
+
+/// How something is written, prepended, measured and tested.
+pub struct Bodies {
+    /// How it is written.
+    pub write: &'static str,
+    /// How it is prepended.
+    pub prepend: &'static str,
+    /// How long it is.
+    pub len: &'static str,
+    /// Whether it can be written.
+    pub accepts: &'static str,
+}
+
+/// Those of a SEQUENCE.
+pub static SEQUENCE_BODIES: Bodies = Bodies {
+    write: "Sequence::<Parts>::write_fields(@R, writer)",
+    prepend: "Sequence::<Parts>::prepend_fields(@R, under, out)",
+    len: "Sequence::<Parts>::fields_len(@R, under, mode)",
+    accepts: "accepts_fields::<Parts, _>(@R)",
+};
+
+/// Those of a SEQUENCE under an IMPLICIT tag.
+pub static IMPLICIT_BODIES: Bodies = Bodies {
+    write: "write_implicit_fields::<@t, Parts, _>(@R, writer)",
+    prepend: "prepend_implicit_fields::<@t, Parts, _>(@R, under, out)",
+    len: "implicit_fields_len::<@t, Parts, _>(@R, under, mode)",
+    accepts: "accepts_fields::<Parts, _>(@R)",
+};
+
+/// Those of a SEQUENCE under an EXPLICIT tag.
+pub static EXPLICIT_BODIES: Bodies = Bodies {
+    write: "write_explicit_fields::<@t, Parts, _>(@R, writer)",
+    prepend: "prepend_explicit_fields::<@t, Parts, _>(@R, under, out)",
+    len: "explicit_fields_len::<@t, Parts, _>(@R, under, mode)",
+    accepts: "accepts_fields::<Parts, _>(@R)",
+};
+
+/// Those of a type that holds one value.
+pub static VALUE_BODIES: Bodies = Bodies {
+    write: "<Notated as Notation>::write(&value.@F, writer)",
+    prepend: "<Notated as Notation>::prepend(&value.@F, under, out)",
+    len: "<Notated as Notation>::encoded_len(&value.@F, under, mode)",
+    accepts: "<Notated as Checked>::accepts(&value.@F)",
+};
+
+/// Parts of a SEQUENCE by one name. `@R` is their name, `@O` that of the whole, `@H` the values of its fields.
+pub static PARTS_IMPLS: &str = "
+/// The values of these parts.
+pub type @RFields = @V;
+
+/// These parts.
+pub struct @R;
+
+impl Parts for @R {
+    type Values = @RFields;
+
+    type Inner = ();
+
+    ghost tags_known = { ⟦<Each as Parts>⟧.tags_known };
+
+    ghost tags = { ⟦<Each as Parts>⟧.tags };
+
+    ghost unambiguous = { ⟦<Each as Parts>⟧.unambiguous };
+
+    ghost parts = { ⟦<Each as Parts>⟧.parts };
+
+    ghost any_parts = { ⟦<Each as Parts>⟧.any_parts };
+
+    ghost may_allocate = { ⟦<Each as Parts>⟧.may_allocate };
+
+    ghost same = { ⟦<Each as Parts>⟧.same };
+
+    ghost encoding = { ⟦<Each as Parts>⟧.encoding };
+
+    ghost depth = { ⟦<Each as Parts>⟧.depth };
+
+    ghost can = { ⟦<Each as Parts>⟧.can };
+
+    ghost fits = { ⟦<Each as Parts>⟧.fits };
+
+    #[inline(always)]
+    fn read_parts(seq: &mut BERReaderSeq) -> ASN1Result<@RFields> {
+        <Each as Parts>::read_parts(seq)
+    }
+
+    #[inline(always)]
+    fn write_parts(values: &@RFields, seq: &mut DERWriterSeq) -> ASN1Result<()> {
+        <Each as Parts>::write_parts(values, seq)
+    }
+
+    #[inline(always)]
+    fn prepend_parts(values: &@RFields, out: &mut PrependBuffer) -> ASN1Result<()> {
+        <Each as Parts>::prepend_parts(values, out)
+    }
+
+    #[inline(always)]
+    fn parts_len(values: &@RFields, mode: BERMode) -> Option<usize> {
+        <Each as Parts>::parts_len(values, mode)
+    }
+
+    ghost laws = { λ _. @7 };
+}
+
+impl<'a> PartsBy<&'a @O> for @R {
+    type Held = @RFields;
+
+    ghost held = { λ r. @H };
+
+    ghost encoding_by = { ⟦<Each as Parts>⟧.encoding };
+
+    ghost can_by = { ⟦<Each as Parts>⟧.can };
+
+    #[inline(always)]
+    fn write_each(value: &&'a @O, seq: &mut DERWriterSeq) -> ASN1Result<()> {
+        let fields = @E;
+        Each::write_each(&fields, seq)
+    }
+
+    #[inline(always)]
+    fn prepend_each(value: &&'a @O, out: &mut PrependBuffer) -> ASN1Result<()> {
+        let fields = @E;
+        Each::prepend_each(&fields, out)
+    }
+
+    #[inline(always)]
+    fn each_len(value: &&'a @O, mode: BERMode) -> Option<usize> {
+        let fields = @E;
+        Each::each_len(&fields, mode)
+    }
+}
+
+impl<'a> CheckedBy<&'a @O> for @R {
+    type Held = @RFields;
+
+    ghost held = { λ r. @H };
+
+    ghost can_by = { ⟦<Each as Parts>⟧.can };
+
+    #[inline(always)]
+    fn accept_each(value: &&'a @O) -> bool {
+        let fields = @E;
+        Each::accept_each(&fields)
+    }
+}
+";
+
+/// The impl of parts of which what BER reads is written in DER.
+pub static CANONICAL_PARTS_IMPL: &str = "
+impl CanonicalParts for @R {
+    ghost written = { λ _. @8 };
+}
+";
+
+/// An enum of an ENUMERATED. `@I` is its variants, `@1` and `@2` the arms of its two functions, `@P` what the names of its specs begin with.
+pub static ENUMERATION: &str = "use yasna_notation_types::Numbered;
+
+/// `@A`.
+#[derive(Clone, Copy)]
+pub enum @N {
+@I}
+
+impl Numbered for @N {
+    ghost number_of = { @P_number };
+
+    ghost named = { @P_named };
+
+    ghost allowed = { @P_allowed };
+
+    fn number(&self) -> i64 {
+        match self {
+@1        }
+    }
+
+    fn from_number(number: i64) -> Option<@N> {
+        match number {
+@2        }
+    }
+
+    ghost writable = { @P_writable };
+}
+";
+
+/// The specs of an enum. `@K` is its crate, `@F` its file, `@G` its variants, `@3` and `@4` the lines of a clause for each, `@5` its numbers.
+pub static ENUMERATION_SPECS: &str = "-- The numbers of `@A`.
+use Rattle.std.proofs.Common.{◌≡◌, ◌∷◌, [], ℤ, List, Bool, true, pos, negsuc, refl, FitsSigned, arith}
+use Rattle.std.specs.Prelude.{◌↔◌}
+use Rattle.std.specs.Int.{w64}
+use Rattle.std.specs.List.{list_any}
+use Rattle.std.specs.Ordering.{int_eq}
+use Rattle.@K.specs.declared.@F.@N.{@N}
+use Rattle.@K.specs.declared.@F.@N.TheVariants.{@G}
+
+-- the number of each
+abbrev pub @P_number : @N → ℤ
+@3
+-- it is one of these numbers
+abbrev pub @P_named : ℤ → Bool
+@P_named z = list_any (int_eq z) (@5[])
+
+-- each value can be written
+abbrev pub @P_allowed : @N → Type 0
+@P_allowed v = Unit {0}
+
+pub @P_writable : (v : @N) → @P_allowed v ↔ (FitsSigned w64 (@P_number v) × (@P_named (@P_number v) ≡ true))
+@4";
+
+/// The specs of an extensible enum, whose last variant has any other number.
+pub static OPEN_ENUMERATION_SPECS: &str = "-- The numbers of `@A`.
+use Rattle.std.proofs.Common.{◌≡◌, ℤ, Bool, true, pos, negsuc, refl, FitsSigned}
+use Rattle.std.specs.Prelude.{◌↔◌}
+use Rattle.std.specs.Int.{w64}
+use Rattle.@K.specs.declared.@F.@N.{@N}
+use Rattle.@K.specs.declared.@F.@N.TheVariants.{@G}
+
+-- the number of each; one that the module doesn't name holds its number
+abbrev pub @P_number : @N → ℤ
+@3
+-- each number is that of a value
+abbrev pub @P_named : ℤ → Bool
+@P_named z = true
+
+abbrev pub @P_allowed : @N → Type 0
+@P_allowed v = FitsSigned w64 (@P_number v)
+
+pub @P_writable : (v : @N) → @P_allowed v ↔ (FitsSigned w64 (@P_number v) × (@P_named (@P_number v) ≡ true))
+@P_writable v = (λ f. (f, refl), λ x. x.0)
+";

@@ -1,0 +1,154 @@
+//! What a source brings in of the types of its crate, and of other crates.
+//!
+//! | Mark | Represents |
+//! |---|---|
+//! | `@K` | the crate of the type |
+//! | `@F` | its file |
+//! | `@N` | its name |
+//! | `@P` | what the names of its laws begin with |
+//! | `@S` | the file of specs that has the numbers of its items |
+
+use crate::imports::Words;
+use crate::terms::{TypeName, TypeNames};
+use crate::text::Text;
+use std::alloc::Global;
+
+// A line that a source needs where a word is in its text.
+struct Line {
+    // What the word has after what the names of the laws begin with.
+    ending: &'static str,
+    text: &'static str,
+}
+
+static LAW_LINES: [Line; 3] = [
+    Line {
+        ending: "_law",
+        text: "ghost use Rattle.@K.specs.contracts.@F.@NNotation.TheImpl.Laws.{lawful-law as @P_law};\n",
+    },
+    Line {
+        ending: "_non_empty",
+        text: "ghost use Rattle.@K.specs.contracts.@F.@NNotation.TheImpl.Laws.{non_empty-law as @P_non_empty};\n",
+    },
+    Line {
+        ending: "_written",
+        text: "ghost use Rattle.@K.specs.contracts.@F.@NCanonicalNotation.TheImpl.Laws.{written-law as @P_written};\n",
+    },
+];
+
+static NUMBER_LINES: [Line; 3] = [
+    Line {
+        ending: "_number",
+        text: "ghost use Rattle.@K.specs.@N.{@P_number};\n",
+    },
+    Line {
+        ending: "_named",
+        text: "ghost use Rattle.@K.specs.@N.{@P_named};\n",
+    },
+    Line {
+        ending: "_writable",
+        text: "ghost use Rattle.@K.specs.@N.{@P_writable};\n",
+    },
+];
+
+/// Appends a text with what its marks represent.
+pub fn put_type_line(text: &str, krate: &[u8], name: &TypeName, out: &mut Text) {
+    let mut is_mark = false;
+    for octet in text.as_bytes() {
+        if is_mark {
+            match *octet {
+                b'K' => out.put(krate),
+                b'F' => out.put(name.file.as_slice()),
+                b'N' => out.put(name.name.as_slice()),
+                _ => out.put(name.law.as_slice()),
+            }
+            is_mark = false;
+        } else if *octet == b'@' {
+            is_mark = true;
+        } else {
+            out.put_octet(*octet);
+        }
+    }
+}
+
+fn crate_of<'t>(name: &'t TypeName, krate: &'t [u8]) -> &'t [u8] {
+    match &name.origin {
+        Some(origin) => origin.as_slice(),
+        None => krate,
+    }
+}
+
+// Appends the lines of a table whose words are in a text.
+fn put_lines(
+    alloc: Global,
+    lines: &[Line],
+    krate: &[u8],
+    name: &TypeName,
+    words: &Words<'_>,
+    out: &mut Text,
+) {
+    for line in lines {
+        let mut word = Text::new(alloc);
+        word.put(name.law.as_slice());
+        word.say(line.ending);
+        if words.has(word.as_slice()) {
+            put_type_line(line.text, crate_of(name, krate), name, out);
+        }
+    }
+}
+
+/// Appends the lines for the laws of a type that a text names.
+pub fn put_laws(alloc: Global, krate: &[u8], name: &TypeName, words: &Words<'_>, out: &mut Text) {
+    if name.is_enumeration {
+        put_lines(alloc, NUMBER_LINES.as_slice(), krate, name, words, out);
+    } else {
+        put_lines(alloc, LAW_LINES.as_slice(), krate, name, words, out);
+    }
+}
+
+/// Appends the line for a type that a text names.
+pub fn put_type(name: &TypeName, words: &Words<'_>, out: &mut Text) {
+    if !words.has(name.name.as_slice()) {
+        return;
+    }
+    match &name.origin {
+        Some(origin) => put_type_line("use @K::@N;\n", origin.as_slice(), name, out),
+        None => put_type_line("use crate::@F::@N;\n", b"crate", name, out),
+    }
+}
+
+/// Appends the lines for the laws of all types that a text names, but for one of these names.
+pub fn put_all_laws(
+    alloc: Global,
+    krate: &[u8],
+    own: &[u8],
+    names: &TypeNames,
+    words: &Words<'_>,
+    out: &mut Text,
+) {
+    for place in names.order.iter() {
+        let Some(name) = names.defined.get(*place) else {
+            continue
+        };
+        if name.name.as_slice() != own {
+            put_laws(alloc, krate, name, words, out);
+        }
+    }
+    for name in names.imported.iter() {
+        put_laws(alloc, krate, name, words, out);
+    }
+}
+
+/// Appends the lines for all types that a text names, but for one of these names.
+pub fn put_all_types(own: &[u8], names: &TypeNames, words: &Words<'_>, out: &mut Text) {
+    for place in names.order.iter() {
+        let Some(name) = names.defined.get(*place) else {
+            continue
+        };
+        if name.name.as_slice() != own {
+            put_type(name, words, out);
+        }
+    }
+    for name in names.imported.iter() {
+        put_type(name, words, out);
+    }
+}

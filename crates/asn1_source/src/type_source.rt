@@ -1,0 +1,488 @@
+//! The sources of a type.
+
+use crate::alternatives::choice_of;
+use crate::choice_source::{set_choice, variants_of};
+use crate::enumeration_source::{enumeration_of, set_enumeration, specs_of};
+use crate::head::{ModuleSource, put_head, put_path};
+use crate::imports::{Words, put_clause_table, put_code_table};
+use crate::naming::{field_names, item_names, variant_names};
+use crate::parts_source::{first_run, put_rests};
+use crate::sequence_source::set_sequence;
+use crate::template::Fragments;
+use crate::templates::{CANONICAL_IMPL, CHECKED_IMPL, ENUMERATION, IMPLS};
+use crate::terms::{TypeName, TypeNames};
+use crate::text::Text;
+use crate::type_imports::{put_all_laws, put_all_types};
+use crate::value_source::{set_tagged, set_value};
+use asn1_types::model::{
+    Alternatives, Body, Components, Constant, Definition, Enumeration, Notation, TagLayer,
+};
+use std::alloc::{AllocError, Global};
+
+/// A file of a crate.
+#[derive(Drop)]
+pub struct SourceFile {
+    /// Its path in the folder of the crate.
+    pub path: Vec<u8>,
+    /// Its text.
+    pub text: Vec<u8>,
+}
+
+/// The files of a crate.
+#[derive(Drop)]
+pub struct Files {
+    alloc: Global,
+    /// The files.
+    pub files: Vec<SourceFile>,
+}
+
+impl Files {
+    /// No files.
+    pub fn new(alloc: Global) -> Files {
+        Files {
+            alloc,
+            files: Vec::new(alloc),
+        }
+    }
+
+    /// Adds a file in a folder.
+    pub fn add(
+        &mut self,
+        folder: &str,
+        name: &[u8],
+        ending: &str,
+        text: Text,
+    ) -> Result<(), AllocError> {
+        let mut path = Text::new(self.alloc);
+        path.say(folder);
+        path.put(name);
+        path.say(ending);
+        let (Some(path), Some(text)) = (path.finish(), text.finish()) else {
+            return Err(AllocError);
+        };
+        match self.files.push(SourceFile { path, text }) {
+            Ok(()) => Ok(()),
+            Err(_) => Err(AllocError),
+        }
+    }
+}
+
+/// What the sources of a crate are made of.
+#[derive(Clone, Copy)]
+pub struct CrateSource<'p, 'a> {
+    /// The name of the crate.
+    pub krate: &'p [u8],
+    /// The modules.
+    pub modules: &'p [ModuleSource<'a>],
+    /// The definitions.
+    pub definitions: &'p [Definition<'a>],
+    /// The names of all types.
+    pub names: &'p TypeNames,
+    /// Which definitions are wanted.
+    pub wanted: &'p [bool],
+    /// The values that have a name.
+    pub constants: &'p [Constant<'a>],
+}
+
+/// What the sources of a crate of this name are made of.
+pub fn source_of<'p, 'a>(
+    krate: &'p [u8],
+    modules: &'p [ModuleSource<'a>],
+    definitions: &'p [Definition<'a>],
+    names: &'p TypeNames,
+    wanted: &'p [bool],
+    constants: &'p [Constant<'a>],
+) -> CrateSource<'p, 'a> {
+    CrateSource {
+        krate,
+        modules,
+        definitions,
+        names,
+        wanted,
+        constants,
+    }
+}
+
+/// Whether a definition has a file: it is wanted, and no other name for a notation.
+pub fn has_file(source: &CrateSource<'_, '_>, place: usize) -> bool {
+    let is_wanted = match source.wanted.get(place) {
+        Some(wanted) => *wanted,
+        None => false,
+    };
+    match source.definitions.get(place) {
+        Some(definition) => is_wanted && !matches!(&definition.body, Body::Alias(_)),
+        None => false,
+    }
+}
+
+// The fragments that all types have.
+fn begun(
+    alloc: Global,
+    source: &CrateSource<'_, '_>,
+    name: &TypeName,
+    path: &[&[u8]],
+) -> Fragments {
+    let mut fragments = Fragments::new(alloc);
+    fragments.set_octets(b'N', name.name.as_slice());
+    fragments.set_octets(b'K', source.krate);
+    let mut text = Text::new(alloc);
+    put_path(path, &mut text);
+    fragments.set(b'a', text);
+    fragments
+}
+
+// The source of a type after what it brings in.
+fn body_of(fragments: &mut Fragments, is_canonical: bool) -> Text {
+    fragments.set_term(b'7', "@L", 100);
+    fragments.set_term(b'8', "@C", 100);
+    fragments.set_term(b'9', "@M", 25);
+    let mut body = fragments.text();
+    fragments.fill("@A/// `@a`.\n@S", &mut body);
+    fragments.fill(IMPLS, &mut body);
+    if is_canonical {
+        fragments.fill(CANONICAL_IMPL, &mut body);
+    }
+    fragments.fill(CHECKED_IMPL, &mut body);
+    body
+}
+
+/// Appends what a source brings in, and the source. `clauses` and `code` are lines that it brings in beside all others.
+pub fn put_source(
+    alloc: Global,
+    source: &CrateSource<'_, '_>,
+    own: &[u8],
+    clauses: &[u8],
+    code: &[u8],
+    body: &Text,
+    out: &mut Text,
+) {
+    let words = Words::of(alloc, body.as_slice());
+    put_clause_table(alloc, &words, out);
+    put_all_laws(alloc, source.krate, own, source.names, &words, out);
+    out.put(clauses);
+    out.say("\n");
+    out.put(code);
+    put_all_types(own, source.names, &words, out);
+    put_code_table(alloc, &words, out);
+    out.say("\n");
+    out.put(body.as_slice());
+    if body.is_cut() || words.is_cut() {
+        out.cut();
+    }
+}
+
+// Adds the file of a type.
+fn add_type(
+    alloc: Global,
+    source: &CrateSource<'_, '_>,
+    definition: &Definition<'_>,
+    name: &TypeName,
+    fragments: &mut Fragments,
+    clauses: &str,
+    code: &str,
+    files: &mut Files,
+) -> Result<(), AllocError> {
+    let body = body_of(fragments, name.is_canonical);
+    let mut text = Text::new(alloc);
+    put_head(alloc, source.modules, definition, &mut text);
+    let mut more = Text::new(alloc);
+    fragments.fill(clauses, &mut more);
+    let mut lines = Text::new(alloc);
+    fragments.fill(code, &mut lines);
+    put_source(
+        alloc,
+        source,
+        name.name.as_slice(),
+        more.as_slice(),
+        lines.as_slice(),
+        &body,
+        &mut text,
+    );
+    files.add("src/", name.file.as_slice(), ".rt", text)
+}
+
+// What a SEQUENCE brings in of the parts that have a name of their own.
+const REST_CLAUSES: &str =
+    "ghost use Rattle.@K.specs.contracts.@y.@YParts.TheImpl.Laws.{laws-law as @y_parts};\n";
+
+const REST_WRITTEN_CLAUSES: &str =
+    "ghost use Rattle.@K.specs.contracts.@y.@YParts.TheImpl.Laws.{laws-law as @y_parts};\nghost use Rattle.@K.specs.contracts.@y.@YCanonicalParts.TheImpl.Laws.{written-law as @y_written};\n";
+
+/// The lines that bring in the parts that follow others, by `@y` and `@Y`.
+pub fn rest_clauses(has_rest: bool, is_canonical: bool) -> &'static str {
+    if !has_rest {
+        ""
+    } else if is_canonical {
+        REST_WRITTEN_CLAUSES
+    } else {
+        REST_CLAUSES
+    }
+}
+
+/// The lines of code that bring in the parts that follow others, by `@y` and `@Y`.
+pub fn rest_code(has_rest: bool) -> &'static str {
+    if has_rest {
+        "use crate::@y::{@Y, @YFields};\n"
+    } else {
+        ""
+    }
+}
+
+// Adds the files of a SEQUENCE.
+fn add_sequence(
+    alloc: Global,
+    source: &CrateSource<'_, '_>,
+    definition: &Definition<'_>,
+    name: &TypeName,
+    components: &Components<'_>,
+    tags: &[TagLayer],
+    files: &mut Files,
+) -> Result<(), AllocError> {
+    let parts = components.parts.as_slice();
+    let fields = field_names(alloc, parts)?;
+    let mut fragments = begun(alloc, source, name, definition.path.as_slice());
+    let rest = put_rests(alloc, source, name, parts, fields.as_slice(), files)?;
+    let has_rest = !rest.name.is_empty();
+    fragments.set_octets(b'y', rest.file.as_slice());
+    fragments.set_octets(b'Y', rest.name.as_slice());
+    set_sequence(
+        alloc,
+        &mut fragments,
+        first_run(parts),
+        &rest,
+        parts,
+        fields.as_slice(),
+        tags,
+        source.names,
+    );
+    let clauses = rest_clauses(has_rest, name.is_canonical);
+    add_type(
+        alloc,
+        source,
+        definition,
+        name,
+        &mut fragments,
+        clauses,
+        rest_code(has_rest),
+        files,
+    )
+}
+
+const VARIANT_CLAUSES: &str = "ghost use Rattle.@K.specs.declared.@y.@N.TheVariants.{@G};\n";
+
+// Adds the file of a CHOICE.
+fn add_choice(
+    alloc: Global,
+    source: &CrateSource<'_, '_>,
+    definition: &Definition<'_>,
+    name: &TypeName,
+    choice: &Alternatives<'_>,
+    files: &mut Files,
+) -> Result<(), AllocError> {
+    let alternatives = choice.alternatives.as_slice();
+    let found = variant_names(alloc, alternatives)?;
+    let variants = variants_of(alloc, found, name.name.as_slice(), source.names)?;
+    let mut fragments = begun(alloc, source, name, definition.path.as_slice());
+    fragments.set_octets(b'y', name.file.as_slice());
+    let of = choice_of(alternatives, variants.as_slice(), name.name.as_slice());
+    set_choice(&mut fragments, &of, source.names);
+    add_type(
+        alloc,
+        source,
+        definition,
+        name,
+        &mut fragments,
+        VARIANT_CLAUSES,
+        "",
+        files,
+    )
+}
+
+// Adds the file of a type that holds one value.
+fn add_value(
+    alloc: Global,
+    source: &CrateSource<'_, '_>,
+    definition: &Definition<'_>,
+    name: &TypeName,
+    notation: &Notation,
+    files: &mut Files,
+) -> Result<(), AllocError> {
+    let mut fragments = begun(alloc, source, name, definition.path.as_slice());
+    set_value(&mut fragments, notation, source.names);
+    add_type(
+        alloc,
+        source,
+        definition,
+        name,
+        &mut fragments,
+        "",
+        "",
+        files,
+    )
+}
+
+const NUMBER_CLAUSES: &str =
+    "ghost use Rattle.@K.specs.@N.{@P_number, @P_named, @P_allowed, @P_writable};\n\n";
+
+// Adds the file of an ENUMERATED, and that of its specs.
+fn add_enumeration(
+    alloc: Global,
+    source: &CrateSource<'_, '_>,
+    definition: &Definition<'_>,
+    name: &TypeName,
+    enumeration: &Enumeration<'_>,
+    files: &mut Files,
+) -> Result<(), AllocError> {
+    let variants = item_names(
+        alloc,
+        enumeration.items.as_slice(),
+        enumeration.is_extensible,
+    )?;
+    let mut fragments = begun(alloc, source, name, definition.path.as_slice());
+    let of = enumeration_of(
+        enumeration.items.as_slice(),
+        enumeration.is_extensible,
+        variants.as_slice(),
+        name.name.as_slice(),
+        name.law.as_slice(),
+    );
+    fragments.set_octets(b'F', name.file.as_slice());
+    set_enumeration(&mut fragments, &of);
+    let mut text = Text::new(alloc);
+    put_head(alloc, source.modules, definition, &mut text);
+    fragments.fill(NUMBER_CLAUSES, &mut text);
+    fragments.fill(ENUMERATION, &mut text);
+    files.add("src/", name.file.as_slice(), ".rt", text)?;
+    let mut specs = Text::new(alloc);
+    fragments.fill(specs_of(enumeration), &mut specs);
+    files.add("specs/", name.name.as_slice(), ".antt", specs)
+}
+
+// What a type under tags brings in of the type that they are around.
+const TAGGED_CLAUSES: &str =
+    "ghost use Rattle.@K.specs.contracts.@J.@BNotation.TheImpl.Laws.{lawful-law as @J_law, non_empty-law as @J_non_empty};\n";
+
+const TAGGED_WRITTEN_CLAUSES: &str =
+    "ghost use Rattle.@K.specs.contracts.@J.@BNotation.TheImpl.Laws.{lawful-law as @J_law, non_empty-law as @J_non_empty};\nghost use Rattle.@K.specs.contracts.@J.@BCanonicalNotation.TheImpl.Laws.{written-law as @J_written};\n";
+
+// Adds the file of a type that is another one under tags.
+fn add_tagged(
+    alloc: Global,
+    source: &CrateSource<'_, '_>,
+    definition: &Definition<'_>,
+    name: &TypeName,
+    inner: &TypeName,
+    files: &mut Files,
+) -> Result<(), AllocError> {
+    let mut fragments = begun(alloc, source, name, definition.path.as_slice());
+    fragments.set_octets(b'B', inner.name.as_slice());
+    fragments.set_octets(b'J', inner.law.as_slice());
+    set_tagged(&mut fragments, definition.tags.as_slice());
+    let clauses = if name.is_canonical {
+        TAGGED_WRITTEN_CLAUSES
+    } else {
+        TAGGED_CLAUSES
+    };
+    add_type(
+        alloc,
+        source,
+        definition,
+        name,
+        &mut fragments,
+        clauses,
+        "use crate::@J::@B;\n",
+        files,
+    )
+}
+
+// The name of what is under the tags of a type.
+fn untagged_name(alloc: Global, name: &TypeName) -> Result<TypeName, AllocError> {
+    let mut text = Text::new(alloc);
+    text.put(name.name.as_slice());
+    text.say("Untagged");
+    let mut file = Text::new(alloc);
+    file.put(name.file.as_slice());
+    file.say("_untagged");
+    let law = Vec::from_slice(alloc, file.as_slice())?;
+    match (text.finish(), file.finish()) {
+        (Some(text), Some(file)) => Ok(TypeName {
+            name: text,
+            file,
+            origin: None,
+            law,
+            is_enumeration: false,
+            is_canonical: name.is_canonical,
+        }),
+        _ => Err(AllocError),
+    }
+}
+
+// The number of the tag of a SET.
+const SET_NUMBER: u64 = 17;
+
+// Adds the files of what a definition is under these tags.
+fn add_body(
+    alloc: Global,
+    source: &CrateSource<'_, '_>,
+    definition: &Definition<'_>,
+    name: &TypeName,
+    tags: &[TagLayer],
+    files: &mut Files,
+) -> Result<(), AllocError> {
+    match &definition.body {
+        Body::Sequence(components) => add_sequence(
+            alloc, source, definition, name, components, tags, files,
+        ),
+        Body::Set(_) => add_value(
+            alloc,
+            source,
+            definition,
+            name,
+            &Notation::ElementsUnder(SET_NUMBER),
+            files,
+        ),
+        Body::Choice(choice) => add_choice(alloc, source, definition, name, choice, files),
+        Body::Enumerated(enumeration) => add_enumeration(
+            alloc,
+            source,
+            definition,
+            name,
+            enumeration,
+            files,
+        ),
+        Body::Value(notation) => add_value(alloc, source, definition, name, notation, files),
+        Body::Alias(_) => Ok(()),
+    }
+}
+
+/// Whether tags are around a type in a file of its own: around a CHOICE or a SET, and two of them around a SEQUENCE.
+pub fn is_cut(definition: &Definition<'_>) -> bool {
+    match &definition.body {
+        Body::Choice(_) | Body::Set(_) => !definition.tags.is_empty(),
+        Body::Sequence(_) => definition.tags.len() > 1,
+        Body::Enumerated(_) | Body::Value(_) | Body::Alias(_) => false,
+    }
+}
+
+/// Adds the files of a definition.
+pub fn add_definition(
+    alloc: Global,
+    source: &CrateSource<'_, '_>,
+    definition: &Definition<'_>,
+    name: &TypeName,
+    files: &mut Files,
+) -> Result<(), AllocError> {
+    if !is_cut(definition) {
+        return add_body(
+            alloc,
+            source,
+            definition,
+            name,
+            definition.tags.as_slice(),
+            files,
+        );
+    }
+    let inner = untagged_name(alloc, name)?;
+    add_body(alloc, source, definition, &inner, &[], files)?;
+    add_tagged(alloc, source, definition, name, &inner, files)
+}

@@ -1,0 +1,90 @@
+//! The source of a type that holds one value.
+
+use crate::sequence_source::set_bodies;
+use crate::template::Fragments;
+use crate::templates::VALUE_BODIES;
+use crate::terms::{Aspect, TypeNames, put_notation, put_under};
+use crate::text::Text;
+use asn1_types::model::{Notation, TagLayer};
+
+// Sets a mark to a text of a notation.
+fn set_notation(
+    fragments: &mut Fragments,
+    mark: u8,
+    notation: &Notation,
+    aspect: Aspect,
+    names: &TypeNames,
+) {
+    let mut text = fragments.text();
+    put_notation(notation, aspect, false, names, &mut text);
+    fragments.set(mark, text);
+}
+
+// Whether the values of a notation are a list.
+fn is_list(notation: &Notation) -> bool {
+    let mut current = notation;
+    while let Notation::Tagged(_, inner) = current {
+        current = &**inner;
+    }
+    match current {
+        Notation::SequenceOf(_, _) | Notation::SetOf(_, _) => true,
+        _ => false,
+    }
+}
+
+// Sets the marks of a source to those of a type of one value, of which `T`, `V`, `L`, `C` and `Z` are set.
+fn set_rest(fragments: &mut Fragments, field: &[u8]) {
+    fragments.set_octets(b'F', field);
+    fragments.set_octets(b'P', field);
+    fragments.set_filled(b'A', "type Notated = @T;\n\n");
+    fragments.set_filled(
+        b'S',
+        "#[derive(Drop)]\npub struct @N {\n    pub @F: @V,\n}\n",
+    );
+    fragments.set_filled(b'v', "λ v. v.@F");
+    fragments.set_filled(b'f', "@N { @F }");
+    let is_element = fragments.get(b'Z').starts_with("(λ n w.".as_bytes());
+    if is_element {
+        fragments.set_octets(b'M', "λ u m v. element_non_empty _ _ _ _".as_bytes());
+    } else {
+        fragments.set_filled(b'M', "λ u m v. @Z m v.@F");
+    }
+    set_bodies(&VALUE_BODIES, fragments);
+}
+
+/// Sets the marks of a source to those of a type that holds one value of a notation.
+pub fn set_value(fragments: &mut Fragments, notation: &Notation, names: &TypeNames) {
+    set_notation(fragments, b'T', notation, Aspect::Notation, names);
+    set_notation(fragments, b'V', notation, Aspect::Value, names);
+    set_notation(fragments, b'L', notation, Aspect::Law, names);
+    set_notation(fragments, b'C', notation, Aspect::Written, names);
+    set_notation(fragments, b'Z', notation, Aspect::NonEmpty, names);
+    set_rest(
+        fragments,
+        if is_list(notation) {
+            b"items"
+        } else {
+            b"value"
+        },
+    );
+}
+
+// Sets a mark to a text under tags.
+fn set_under(fragments: &mut Fragments, mark: u8, tags: &[TagLayer], aspect: Aspect, inner: u8) {
+    let mut text = fragments.text();
+    put_under(tags, aspect, fragments.get(inner), &mut text);
+    fragments.set(mark, text);
+}
+
+/// Sets the marks of a source to those of a type under tags, of which `B` is the name and `J` what the names of its laws begin with.
+pub fn set_tagged(fragments: &mut Fragments, tags: &[TagLayer]) {
+    fragments.set_filled(b'i', "(@J_law refl)");
+    fragments.set_filled(b'j', "(@J_written refl)");
+    fragments.set_filled(b'k', "(@J_non_empty _)");
+    set_under(fragments, b'T', tags, Aspect::Notation, b'B');
+    fragments.set_filled(b'V', "@B");
+    set_under(fragments, b'L', tags, Aspect::Law, b'i');
+    set_under(fragments, b'C', tags, Aspect::Written, b'j');
+    set_under(fragments, b'Z', tags, Aspect::NonEmpty, b'k');
+    set_rest(fragments, b"value");
+}

@@ -1,0 +1,216 @@
+//! `asn1compile [OPTIONS] FILE ..` writes a crate for the types of ASN.1 modules.
+//!
+//! | Status | When |
+//! |---|---|
+//! | 0 | each type is in the crate |
+//! | 1 | a file or a type is rejected, or the crate that is there differs from the one that would be written |
+//! | 2 | usage error |
+//! | 3 | I/O error, or out of memory |
+//!
+//! | Module | Holds |
+//! |---|---|
+//! | `options` | the options of the command line |
+//! | `modules` | the files of the modules, and what is wrong in them |
+//! | `location` | lines and columns |
+//! | `output` | the files of a crate: they are written, or compared with those that are there |
+#![tactic(auto)]
+
+mod location;
+mod modules;
+mod options;
+mod output;
+
+use asn1_source::{
+    CrateSource, ModuleSource, SourceFile, crate_line, known_names, known_types, list_of, names_of,
+    reached, source_of, sources_of,
+};
+use asn1_types::model::{Definition, KnownType, Resolved};
+use asn1_types::resolve;
+use modules::{ModuleFile, Modules, parse_files, read_files, report_looser, report_problems};
+use options::{Options, options_of};
+use output::{check_files, write_files};
+use program_io::{ProgramError, arguments, explain, report, write_output};
+use std::alloc::{AllocError, Global};
+use std::process::ExitCode;
+
+// The exit status after an I/O error, or if memory ran out.
+const IO_ERROR: u8 = 3;
+
+// The modules with their sources.
+fn module_sources<'a>(
+    alloc: Global,
+    files: &'a [ModuleFile<'a>],
+    modules: &'a Modules<'a>,
+) -> Result<Vec<ModuleSource<'a>>, AllocError> {
+    let mut sources = Vec::new(alloc);
+    for (tree, place) in modules.modules.iter().zip(modules.files.iter()) {
+        let source = match files.get(*place) {
+            Some(file) => file.source.as_slice(),
+            None => b"",
+        };
+        if sources.push(ModuleSource { source, tree }).is_err() {
+            return Err(AllocError);
+        }
+    }
+    Ok(sources)
+}
+
+// Writes or compares the files of a crate, and returns the status.
+fn finish(
+    rt: &HostRuntime,
+    options: &Options<'_>,
+    source: &CrateSource<'_, '_>,
+    files: &[SourceFile],
+) -> u8 {
+    if options.check {
+        return check_files(rt, options.out(), options.krate(), files);
+    }
+    let status = write_files(rt, options.out(), options.krate(), files);
+    if status != 0 {
+        return status;
+    }
+    let mut line = crate_line(rt.alloc(), source, files);
+    line.say("\n");
+    write_text(rt, line.as_slice())
+}
+
+// Writes a text to standard output, and returns the status.
+fn write_text(rt: &HostRuntime, text: &[u8]) -> u8 {
+    match write_output(rt, text) {
+        Ok(()) => 0,
+        Err(error) => error.report(rt),
+    }
+}
+
+// Writes the crate or the list of types, and returns the status.
+fn emit(rt: &HostRuntime, options: &Options<'_>, source: &CrateSource<'_, '_>) -> u8 {
+    if options.list {
+        let list = list_of(rt.alloc(), source);
+        return write_text(rt, list.as_slice());
+    }
+    match sources_of(rt.alloc(), source) {
+        Ok(files) => finish(rt, options, source, files.as_slice()),
+        Err(_) => ProgramError::Memory.report(rt),
+    }
+}
+
+// The crate of definitions. Else memory ran out.
+fn compile<'a>(
+    rt: &HostRuntime,
+    options: &Options<'_>,
+    files: &'a [ModuleFile<'a>],
+    modules: &'a Modules<'a>,
+    resolved: &Resolved<'a>,
+) -> Result<u8, AllocError> {
+    let definitions = resolved.definitions.as_slice();
+    let alloc = rt.alloc();
+    let uses = options.uses().unwrap_or(&[]);
+    let imported = known_names(alloc, uses)?;
+    let names = names_of(alloc, definitions, imported)?;
+    let wanted = reached(alloc, definitions, options.types())?;
+    let sources = module_sources(alloc, files, modules)?;
+    let source = source_of(
+        options.krate().as_bytes(),
+        sources.as_slice(),
+        definitions,
+        &names,
+        wanted.as_slice(),
+        resolved.constants.as_slice(),
+    );
+    Ok(emit(rt, options, &source))
+}
+
+// Prints what is looser than the modules, and returns the status.
+fn judge(
+    rt: &HostRuntime,
+    files: &[ModuleFile<'_>],
+    modules: &Modules<'_>,
+    definitions: &[Definition<'_>],
+) -> u8 {
+    let mut status = 0;
+    for definition in definitions {
+        let one = report_looser(rt, files, modules, definition.looser.as_slice());
+        if one > status {
+            status = one;
+        }
+    }
+    status
+}
+
+// Compiles resolved modules, and returns the status.
+fn run_resolved<'a>(
+    rt: &HostRuntime,
+    options: &Options<'_>,
+    files: &'a [ModuleFile<'a>],
+    modules: &'a Modules<'a>,
+    resolved: &Resolved<'a>,
+) -> u8 {
+    let definitions = resolved.definitions.as_slice();
+    let mut rejected = report_problems(rt, files, modules, resolved.problems.as_slice());
+    if options.strict {
+        rejected = rejected.max(judge(rt, files, modules, definitions));
+    }
+    match compile(rt, options, files, modules, resolved) {
+        Ok(status) => rejected.max(status),
+        Err(_) => ProgramError::Memory.report(rt),
+    }
+}
+
+// Resolves modules, compiles them, and returns the status.
+fn run_known<'a>(
+    rt: &HostRuntime,
+    options: &Options<'_>,
+    files: &'a [ModuleFile<'a>],
+    modules: &'a Modules<'a>,
+    known: &'a [KnownType<'a>],
+) -> u8 {
+    match resolve(rt.alloc(), modules.modules.as_slice(), known) {
+        Ok(resolved) => run_resolved(rt, options, files, modules, &resolved),
+        Err(_) => ProgramError::Memory.report(rt),
+    }
+}
+
+// Compiles modules over the types of the crates that are used, which are lent until the program ends, and returns the status.
+fn run_parsed<'a>(
+    rt: &HostRuntime,
+    options: &Options<'_>,
+    files: &'a [ModuleFile<'a>],
+    modules: &'a Modules<'a>,
+) -> u8 {
+    match known_types(rt.alloc(), options.uses().unwrap_or(&[])) {
+        Ok(known) => run_known(rt, options, files, modules, known.leak()),
+        Err(_) => ProgramError::Memory.report(rt),
+    }
+}
+
+// Compiles the modules of files, which are lent until the program ends, and returns the status.
+fn run_modules<'a>(rt: &HostRuntime, options: &Options<'_>, files: &'a [ModuleFile<'a>]) -> u8 {
+    let modules = match parse_files(rt, files) {
+        Ok(modules) => modules,
+        Err(status) => return status,
+    };
+    match Box::new(rt.alloc(), modules) {
+        Ok(modules) => run_parsed(rt, options, files, Box::leak(modules)),
+        Err(_) => ProgramError::Memory.report(rt),
+    }
+}
+
+fn run(rt: &HostRuntime, options: &Options<'_>) -> u8 {
+    let names = options.files().unwrap_or(&[]);
+    match read_files(rt, names) {
+        Ok(files) => run_modules(rt, options, files.as_slice()),
+        Err(status) => status,
+    }
+}
+
+fn main(rt: HostRuntime) -> ExitCode {
+    let words = match arguments(&rt) {
+        Ok(words) => words,
+        Err(error) => return ExitCode::from(error.report(&rt)),
+    };
+    let status = match options_of(rt.alloc(), words.as_slice()) {
+        Ok(options) => run(&rt, &options),
+        Err(error) => explain(&rt, &error),
+    };
+    ExitCode::from(status)
+}
