@@ -1,6 +1,6 @@
 //! The options of the command line.
 
-use asn1show_lines::{Extent, InputFormat, Numbers, Part, Selection, View};
+use asn1show_lines::{Extent, InputFormat, Layout, Numbers, Part, Selection, View};
 use clap::{Arg, ArgAction, ArgMatches, Command, Error};
 use program_io::{Input, VERSION};
 use std::alloc::{AllocError, Global};
@@ -118,6 +118,14 @@ fn width_arg<'a>(alloc: Global) -> Arg<'a> {
     .value_parser(clap::value_parser!(u32))
 }
 
+fn json_arg<'a>(alloc: Global, others: &'static [&'static str]) -> Result<Arg<'a>, AllocError> {
+    Arg::new(alloc, "json")
+        .long("json")
+        .action(ArgAction::SetTrue)
+        .help("Write the elements as JSON")
+        .conflicts_with_all(others)
+}
+
 fn decimal_arg<'a>(alloc: Global) -> Arg<'a> {
     Arg::new(alloc, "decimal")
         .long("decimal")
@@ -157,6 +165,7 @@ fn push_values(alloc: Global, args: &mut Vec<Arg<'_>>) -> Result<(), AllocError>
     args.push(number_arg(alloc, "at", &["check", "extract"], AT_HELP)?)?;
     args.push(number_arg(alloc, "extract", &["check"], EXTRACT_HELP)?)?;
     args.push(contents_arg(alloc)?)?;
+    args.push(json_arg(alloc, &["check", "extract"])?)?;
     args.push(decimal_arg(alloc))?;
     args.push(width_arg(alloc))?;
     Ok(args.push(file_arg(alloc))?)
@@ -246,11 +255,29 @@ fn numbers_of(matches: &ArgMatches<'_>) -> Numbers {
     }
 }
 
+fn layout_of(matches: &ArgMatches<'_>) -> Layout {
+    if matches.get_flag("json") {
+        Layout::Json
+    } else {
+        Layout::Lines
+    }
+}
+
+// The most hexadecimal digits of a value, if no option says it. In JSON values are whole.
+fn default_width(layout: Layout) -> usize {
+    match layout {
+        Layout::Lines => WIDTH,
+        Layout::Json => usize::MAX,
+    }
+}
+
 fn view_of(matches: &ArgMatches<'_>) -> View {
+    let layout = layout_of(matches);
     View {
         selection: selection_of(matches),
+        layout,
         numbers: numbers_of(matches),
-        width: number_of(matches, "width").unwrap_or(WIDTH),
+        width: number_of(matches, "width").unwrap_or(default_width(layout)),
     }
 }
 

@@ -13,14 +13,17 @@ ghost use Rattle.asn1show_walk.specs.WellFormed.{AreElements};
 use crate::digits::{decode_hex, text_of};
 use crate::input_format::{InputFormat, format_of};
 use crate::pem::{Block, PemReader, cut_line};
-use asn1show_printer::{LineBuffer, Names, Output, Printer, Source, Style, View, write_quoted};
+use asn1show_json::JsonPrinter;
+use asn1show_printer::{
+    Layout, LineBuffer, Names, Output, Printer, Source, Style, View, write_quoted,
+};
 use asn1show_walk::{Expected, WalkError, list_input};
 use std::alloc::Global;
 use std::io::Write;
 use yasna_base::mode::BERMode;
 
-// Lists the elements of bytes, and prints their encoding rules.
-fn show_bytes<W: Write + Drop>(
+// Lists the elements of bytes in lines, and prints their encoding rules.
+fn show_lines<W: Write + Drop>(
     out: &mut Output<W>,
     mode: BERMode,
     style: Style<'_>,
@@ -34,6 +37,49 @@ fn show_bytes<W: Write + Drop>(
     let mut printer = Printer::begin(out, style, Source { mode, bytes })?;
     list_input(bytes, mode, &mut printer)?;
     printer.finish()
+}
+
+// Lists the elements of bytes in JSON. The array is ended also if they are malformed.
+fn show_json<W: Write + Drop>(
+    out: &mut Output<W>,
+    mode: BERMode,
+    style: Style<'_>,
+    bytes: &[u8],
+) -> Result<(), WalkError>
+    ensures raw { OnOk result (IsJoining (IsRaw mode max_depth) bytes.now) }
+    ensures some { OnOk result (1 ≤ length bytes.now) }
+    ensures elements { OnOk result (AreElements max_depth mode bytes.now) }
+    ensures fails { IfErr result (λ f. WalkFails IsExternal (NoElements max_depth mode bytes.now) f) }
+{
+    let mut printer = JsonPrinter::begin(out, style)?;
+    let listed = list_input(bytes, mode, &mut printer);
+    printer.finish()?;
+    listed
+}
+
+// Lists the elements of bytes.
+fn show_bytes<W: Write + Drop>(
+    out: &mut Output<W>,
+    mode: BERMode,
+    style: Style<'_>,
+    bytes: &[u8],
+) -> Result<(), WalkError>
+    ensures raw { OnOk result (IsJoining (IsRaw mode max_depth) bytes.now) }
+    ensures some { OnOk result (1 ≤ length bytes.now) }
+    ensures elements { OnOk result (AreElements max_depth mode bytes.now) }
+    ensures fails { IfErr result (λ f. WalkFails IsExternal (NoElements max_depth mode bytes.now) f) }
+{
+    match style.view.layout {
+        Layout::Lines => show_lines(out, mode, style, bytes),
+        Layout::Json => show_json(out, mode, style, bytes),
+    }
+}
+
+// Begins an input with a heading, where elements are laid out in lines.
+fn begin<W: Write + Drop>(out: &mut Output<W>, style: Style<'_>, heading: LineBuffer) {
+    if matches!(style.view.layout, Layout::Lines) {
+        out.begin(heading);
+    }
 }
 
 // Ends a line with the count of bytes, and lists their elements.
@@ -51,7 +97,7 @@ fn show_counted<W: Write + Drop>(
 {
     let count = bytes.len();
     write!(line, "{count} bytes");
-    out.begin(line);
+    begin(out, style, line);
     show_bytes(out, mode, style, bytes)
 }
 
@@ -86,7 +132,7 @@ fn show_block<W: Write + Drop>(
             show_counted(out, mode, style, line, bytes.as_slice())
         }
         Err(error) => {
-            out.begin(line);
+            begin(out, style, line);
             Err(*error)
         }
     }
@@ -128,7 +174,7 @@ fn show_whole_block<W: Write + Drop>(
 {
     let shown = show_block(out, mode, style, block);
     if let Err(error) = shown {
-        if !error.is_external() && style.view.selection.has_lines() {
+        if !error.is_external() && style.view.has_lines() {
             show_defect(out, style.alloc, &error)?;
         }
     }

@@ -49,15 +49,15 @@ keeps (Defects m) position depth element = not (conforms element m)
 keeps (Bytes at part) position depth element = false
 
 -- bytes are a whole element with a header of this many octets: as many as its length says, or one raw element
-abbrev pub IsWhole : BERMode → ℕ → Option ℕ → List ℕ → Type 0
-IsWhole m header (Some n) whole = length whole ≡ header + n
-IsWhole m header None whole = (v : RawValue) × IsRaw m max_depth v whole
+abbrev pub IsWholeElement : BERMode → ℕ → Option ℕ → List ℕ → Type 0
+IsWholeElement m header (Some n) whole = length whole ≡ header + n
+IsWholeElement m header None whole = (v : RawValue) × IsRaw m max_depth v whole
 
 -- s begins with such an element
 pub record IsWholeAt (m : BERMode) (s : List ℕ) (header : ℕ) (size : Option ℕ) (whole : List ℕ) : Type 0 where
   pub rest : List ℕ
   pub joined : s ≡ whole ++ rest
-  pub is_whole : IsWhole m header size whole
+  pub is_whole : IsWholeElement m header size whole
 
 -- the octets after the contents of an element: the two zeros that end them, if the length is indefinite
 abbrev pub end_size : Option ℕ → ℕ
@@ -72,12 +72,12 @@ pub record IsContentsOf (whole : List ℕ) (header : ℕ) (size : Option ℕ) (c
   pub header_size : length head ≡ header
   pub tail_size : length tail ≡ end_size size
 
-abbrev pub IsPartOf : Part → List ℕ → ℕ → Option ℕ → List ℕ → Type 0
-IsPartOf Whole whole header size part = part ≡ whole
-IsPartOf Contents whole header size part = IsContentsOf whole header size part
+abbrev pub IsPartOfElement : Part → List ℕ → ℕ → Option ℕ → List ℕ → Type 0
+IsPartOfElement Whole whole header size part = part ≡ whole
+IsPartOfElement Contents whole header size part = IsContentsOf whole header size part
 
 -- this part of the element that s begins with
 pub record IsExtracted (m : BERMode) (part : Part) (s : List ℕ) (header : ℕ) (size : Option ℕ) (bytes : List ℕ) : Type 0 where
   pub whole : List ℕ
   pub is_whole : IsWholeAt m s header size whole
-  pub is_part : IsPartOf part whole header size bytes
+  pub is_part : IsPartOfElement part whole header size bytes

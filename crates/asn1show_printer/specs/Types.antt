@@ -1,8 +1,9 @@
 -- The types of X.680 by their tags (X.680, 8.6).
-use Rattle.std.specs.Prelude.{ℕ, List, [], ◌∷◌, get_or, Option, Some, None}
+use Rattle.std.specs.Prelude.{ℕ, Bool, true, false, List, [], ◌∷◌, get_or, Option, Some, None}
 use Rattle.yasna_base.specs.declared.tag.Tag.{Tag}
 use Rattle.yasna_base.specs.declared.tag.TagClass.{TagClass}
 use Rattle.yasna_base.specs.declared.tag.TagClass.TheVariants.{Universal, Application, ContextSpecific, Private}
+use Rattle.asn1show_printer.specs.declared.asn_type.Characters.{Characters}
 use Rattle.asn1show_printer.specs.declared.asn_type.Characters.TheVariants.{Utf8, Numeric, Printable, Ia5, Visible, Bmp, Universal as Quads, Other}
 use Rattle.asn1show_printer.specs.declared.asn_type.AsnType.{AsnType}
 use Rattle.asn1show_printer.specs.declared.diagnostic.Diagnostic.{Diagnostic}
@@ -54,3 +55,15 @@ diagnostic_if_constructed GeneralizedTime = Some Segments
 diagnostic_if_constructed Set = None
 diagnostic_if_constructed Parts = None
 diagnostic_if_constructed Unknown = None
+
+-- whether characters are in UTF-8 or ASCII
+abbrev pub are_utf8 : Characters → Bool
+are_utf8 Bmp = false
+are_utf8 Quads = false
+are_utf8 _ = true
+
+-- whether the octets of a type are characters in UTF-8 or ASCII
+abbrev pub is_utf8 : AsnType → Bool
+is_utf8 (Text characters) = are_utf8 characters
+is_utf8 (Whole characters) = are_utf8 characters
+is_utf8 _ = false

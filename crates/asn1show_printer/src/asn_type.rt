@@ -1,6 +1,6 @@
 //! The types of X.680: their characters, and whether they have parts.
 ghost use Rattle.std.specs.Prelude.{◌≡◌, ◌≤◌, get_or};
-ghost use Rattle.asn1show_printer.specs.Types.{diagnostic_if_constructed, type_with, universal_types};
+ghost use Rattle.asn1show_printer.specs.Types.{diagnostic_if_constructed, is_utf8, type_with, universal_types};
 ghost use Rattle.asn1show_printer.specs.declared.asn_type.AsnType.TheVariants.{Unknown};
 
 use crate::diagnostic::Diagnostic;
@@ -149,5 +149,17 @@ impl AsnType {
                 | AsnType::UtcTime
                 | AsnType::GeneralizedTime
         )
+    }
+
+    /// Whether the octets of the type are characters in UTF-8 or ASCII.
+    pub fn is_utf8(self) -> bool
+        ensures { result ≡ is_utf8 self }
+    {
+        match self {
+            AsnType::Text(characters) | AsnType::Whole(characters) => {
+                !matches!(characters, Characters::Bmp | Characters::Universal)
+            }
+            _ => false,
+        }
     }
 }

@@ -12,7 +12,9 @@
 //! | `extraction` | the bytes of an element |
 //! | `line` | a line as it is made |
 //! | `output` | where lines are written |
-//! | `names` | names of types and of object identifiers |
+//! | `type_names` | names of types |
+//! | `report` | what is written of an element |
+//! | `head` | the beginning of a line |
 //! | `printer` | the lines |
 //!
 //! What `asn1show_lines` calls are items of the crate: `asn1show_printer::Printer`.
@@ -21,18 +23,21 @@
 mod asn_type;
 mod diagnostic;
 mod extraction;
+mod head;
 mod line;
-mod names;
 mod output;
 mod printer;
+mod report;
 mod selection;
 mod sets;
+mod type_names;
 mod value;
 
-pub use diagnostic::Conformance;
+pub use asn1show_names::Names;
+pub use diagnostic::{Conformance, Diagnostic};
 pub use line::LineBuffer;
-pub use names::Names;
 pub use output::Output;
 pub use printer::{Printer, Source};
+pub use report::Report;
 pub use selection::{Extent, Part, Selection};
-pub use value::{Numbers, Style, View, write_quoted};
+pub use value::{Layout, Numbers, Style, View, characters_of, write_quoted};

@@ -147,7 +147,7 @@ impl Selection {
     }
 
     /// Whether lines are written, and not only bytes.
-    pub fn has_lines(self) -> bool {
+    pub(crate) fn has_lines(self) -> bool {
         !matches!(self, Selection::Bytes(..))
     }
 }

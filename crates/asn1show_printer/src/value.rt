@@ -2,7 +2,7 @@
 ghost use Rattle.std.specs.Prelude.{◌≡◌, ◌↔◌, ◌∷◌, [], false, IsTrue};
 ghost use Rattle.yasna_base.specs.Integer.{IsMinimal};
 ghost use Rattle.asn1show_printer.specs.Contents.{AreCharacters, DiagnosesOf, line_is_out_of_memory};
-ghost use Rattle.asn1show_printer.specs.Shown.{longest_decimal, IsShownAsText, IsShownInDecimal};
+ghost use Rattle.asn1show_printer.specs.Shown.{longest_decimal, HasCharacters, IsCharactersOf, IsShownAsText, IsShownInDecimal};
 ghost use Rattle.asn1show_printer.specs.declared.asn_type.AsnType.TheVariants.{Bits, Boolean, GeneralizedTime, Text};
 
 mod arcs;
@@ -11,12 +11,13 @@ mod octets;
 mod text;
 mod time;
 
-use crate::asn_type::{AsnType, Characters};
+use crate::asn_type::{AsnType, Characters, type_of};
 use crate::diagnostic::{Diagnostic, unless};
 use crate::line::LineBuffer;
-use crate::names::Names;
 use crate::selection::Selection;
 use arcs::{are_components, components_diagnostic, write_oid, write_relative};
+use asn1show_names::Names;
+use asn1show_walk::Item;
 use number::write_integer;
 use octets::{are_bits, is_padding_clear, write_bits, write_octets};
 use std::alloc::Global;
@@ -24,7 +25,7 @@ use std::str;
 pub use text::write_quoted;
 use text::{are_pairs, are_quads, write_utf8, write_wide};
 use time::{write_generalized_time, write_utc_time};
-use yasna_base::tag::TagClass;
+use yasna_base::tag::{Tag, TagClass};
 use yasna_base::text::{is_ia5, is_numeric, is_printable, is_visible};
 
 /// How an INTEGER or ENUMERATED of more than 8 octets is written.
@@ -48,15 +49,33 @@ impl Numbers {
     }
 }
 
+/// How the elements of an input are laid out.
+#[derive(Clone, Copy)]
+pub enum Layout {
+    /// A line for each.
+    Lines,
+    /// An array of JSON (RFC 8259).
+    Json,
+}
+
 /// What is shown of elements, and how.
 #[derive(Clone, Copy)]
 pub struct View {
     /// What is shown.
     pub selection: Selection,
+    /// How elements are laid out.
+    pub layout: Layout,
     /// How long numbers are written.
     pub numbers: Numbers,
     /// The most hexadecimal digits that are written of a value.
     pub width: usize,
+}
+
+impl View {
+    /// Whether lines are written, and not only bytes or JSON.
+    pub fn has_lines(self) -> bool {
+        matches!(self.layout, Layout::Lines) && self.selection.has_lines()
+    }
 }
 
 /// How elements are shown.
@@ -163,6 +182,24 @@ pub fn is_shown_as_text(class: TagClass, contents: &[u8]) -> bool
     ensures { IsTrue result ↔ IsShownAsText class contents.now }
 {
     class == TagClass::ContextSpecific && !contents.is_empty() && is_visible(contents)
+}
+
+// Whether the octets of a primitive element with this tag are shown as characters in UTF-8 or ASCII.
+fn has_characters(tag: Tag, contents: &[u8]) -> bool
+    ensures { IsTrue result ↔ HasCharacters tag contents.now }
+{
+    type_of(tag).is_utf8() || is_shown_as_text(tag.tag_class, contents)
+}
+
+/// The characters of a primitive element, if its octets are characters in UTF-8 or ASCII.
+pub fn characters_of<'a>(item: &Item<'a>) -> Option<&'a str>
+    ensures { IsCharactersOf item.now.tag item.now.contents.now result }
+{
+    if has_characters(item.tag, item.contents) {
+        str::from_utf8(item.contents).ok()
+    } else {
+        None
+    }
 }
 
 // Writes a time, if there was memory to read it.

@@ -17,10 +17,12 @@
 //! | `known` | calls whose closures are known |
 //! | `lines` | the lines of the elements of any input |
 //! | `located` | where a parse failed |
+//! | `object_names` | the usual names of object identifiers |
 //! | `oid` | object identifiers |
 //! | `pieces` | none: it holds how rows of bytes are read and written again |
 //! | `records`, `scrypt`, `third_party` | types of one's own |
 //! | `shown` | the lines of malformed and unusual elements |
+//! | `shown_json` | the JSON of elements |
 //! | `times` | both times |
 //! | `tree` | a type that refers to itself, and elements at 101 levels |
 //! | `writing` | exchanged writers, discarded errors of parts |
@@ -53,6 +55,8 @@ mod lines;
 #[cfg(test)]
 mod located;
 #[cfg(test)]
+mod object_names;
+#[cfg(test)]
 mod oid;
 #[cfg(test)]
 mod pieces;
@@ -64,6 +68,8 @@ mod records;
 mod scrypt;
 #[cfg(test)]
 mod shown;
+#[cfg(test)]
+mod shown_json;
 #[cfg(test)]
 mod third_party;
 #[cfg(test)]

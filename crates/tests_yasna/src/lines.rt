@@ -2,7 +2,7 @@
 
 use crate::checks::{finds_none, holds, spelled};
 use asn1show_lines::InputFormat::Hex;
-use asn1show_lines::{Extent, InputFormat, Numbers, Output, Selection, View, show};
+use asn1show_lines::{Extent, InputFormat, Layout, Numbers, Output, Selection, View, show};
 use asn1show_walk::{Context, Place, WalkError, is_one_element};
 use std::alloc::Global;
 use yasna::BERMode::{Ber, Cer, Der};
@@ -60,6 +60,7 @@ pub(crate) const ALL: View = View {
         at: None,
         depth: 255,
     }),
+    layout: Layout::Lines,
     numbers: Numbers::Hexadecimal,
     width: 16,
 };

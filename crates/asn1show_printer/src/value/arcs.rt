@@ -4,8 +4,8 @@ ghost use Rattle.asn1show_printer.specs.Contents.{AreSubidentifiers, is_of_ber};
 
 use crate::diagnostic::Diagnostic;
 use crate::line::LineBuffer;
-use crate::names::Names;
 use crate::value::number::write_base128;
+use asn1show_names::Names;
 use std::alloc::Global;
 use yasna_base::bytes::base128::read_base128;
 

@@ -1,0 +1,116 @@
+//! The visitor that writes elements as JSON.
+ghost use Rattle.std.specs.Prelude.{IfErr};
+ghost use Rattle.asn1show_walk.specs.Errors.{IsExternal};
+
+use crate::element::{element_text, end_text, start_text};
+use crate::open_elements::OpenElements;
+use asn1show_printer::{LineBuffer, Output, Report, Style, characters_of};
+use asn1show_walk::{Context, Item, Place, Visitor, WalkError, is_one_element};
+use std::alloc::Global;
+use std::io::Write;
+use std::str;
+use yasna_base::tag::PCBit;
+
+/// Writes elements as an array of JSON. The elements that are in one are its member `children`.
+#[derive(Drop)]
+pub struct JsonPrinter<'w, 'n, W: Write + Drop> {
+    output: &'w mut Output<W>,
+    report: Report<'n>,
+    open: OpenElements,
+    alloc: Global,
+}
+
+// Writes a text on a line.
+fn write_line<W: Write + Drop>(
+    output: &mut Output<W>,
+    alloc: Global,
+    text: &[u8],
+) -> Result<(), WalkError>
+    ensures { IfErr result IsExternal }
+{
+    let mut line = LineBuffer::new(alloc);
+    line.write_all(text);
+    output.write(&mut line)
+}
+
+// The value of an element that is shown so, if it is primitive: its characters, if its octets are characters.
+fn value_of<'s>(item: &'s Item<'_>, shown: &'s [u8]) -> Option<&'s str> {
+    if item.bit == PCBit::Constructed {
+        return None;
+    }
+    if let Some(characters) = characters_of(item) {
+        return Some(characters);
+    }
+    if shown.is_empty() {
+        return None;
+    }
+    str::from_utf8(shown).ok()
+}
+
+impl<'w, 'n, W: Write + Drop> JsonPrinter<'w, 'n, W> {
+    /// Begins the array. `Err` says that memory ran out, or that a write failed.
+    pub fn begin(
+        output: &'w mut Output<W>,
+        style: Style<'n>,
+    ) -> Result<JsonPrinter<'w, 'n, W>, WalkError>
+        ensures { IfErr result IsExternal }
+    {
+        let text = start_text(style.alloc)?;
+        write_line(output, style.alloc, text.as_slice())?;
+        Ok(JsonPrinter {
+            output,
+            report: Report::new(style),
+            open: OpenElements::new(),
+            alloc: style.alloc,
+        })
+    }
+
+    // Writes an element that was described.
+    fn write_element(&mut self, item: &Item<'_>) -> Result<(), WalkError>
+        ensures { IfErr result IsExternal }
+    {
+        let ends = self.open.enter(item.depth);
+        let value = value_of(item, self.report.value()?);
+        let text = element_text(self.alloc, ends, item, value, self.report.diagnostics())?;
+        write_line(self.output, self.alloc, text.as_slice())
+    }
+
+    /// Ends the elements that are open and the array, and notes the encoding rules that the elements conform to.
+    ///
+    /// `Err` says that memory ran out, or that a write failed.
+    pub fn finish(self) -> Result<(), WalkError>
+        ensures { IfErr result IsExternal }
+    {
+        let JsonPrinter {
+            output,
+            report,
+            open,
+            alloc,
+        } = self;
+        report.finish(output);
+        let text = end_text(alloc, open.count())?;
+        write_line(output, alloc, text.as_slice())
+    }
+}
+
+impl<'w, 'n, W: Write + Drop> Visitor for JsonPrinter<'w, 'n, W> {
+    ghost use Rattle.std.specs.Prelude.{None};
+    ghost use Rattle.asn1show_walk.specs.Errors.{IsExternal};
+
+    ghost visited = { λ _. None };
+
+    ghost rejects = { λ _. IsExternal };
+
+    fn visit(&mut self, item: &Item<'_>) -> Result<(), WalkError> {
+        self.report.describe(item);
+        if self.report.count(item) {
+            self.write_element(item)?;
+        }
+        self.report.discard()
+    }
+
+    // Descends if the contents are one whole element, and the string isn't a segment.
+    fn descends_into(&self, context: Context, string: Place<'_>) -> bool {
+        !self.report.is_segment() && is_one_element(context, string)
+    }
+}

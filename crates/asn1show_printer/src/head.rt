@@ -1,0 +1,64 @@
+//! The beginning of an element's line: its place, its lengths and its type.
+
+use crate::line::LineBuffer;
+use crate::type_names::type_name;
+use asn1show_walk::Item;
+use yasna_base::tag::{PCBit, Tag, TagClass};
+use yasna_base::tags::TAG_NULL;
+
+// The prefix of a tag number of this class.
+fn class_prefix(class: TagClass) -> &'static str {
+    match class {
+        TagClass::Universal => "[UNIVERSAL ",
+        TagClass::Application => "[APPLICATION ",
+        TagClass::ContextSpecific => "[",
+        TagClass::Private => "[PRIVATE ",
+    }
+}
+
+// The name of the type with this tag, if it is one of X.680.
+fn name_of(tag: Tag) -> Option<&'static str> {
+    match tag.tag_class {
+        TagClass::Universal => type_name(tag.tag_number),
+        _ => None,
+    }
+}
+
+fn write_tag(line: &mut LineBuffer, tag: Tag) {
+    if let Some(name) = name_of(tag) {
+        return line.write_str(name);
+    }
+    line.write_str(class_prefix(tag.tag_class));
+    write!(line, "{}]", tag.tag_number)
+}
+
+fn write_size(line: &mut LineBuffer, size: Option<usize>) {
+    match size {
+        Some(size) => write!(line, "{size:<7}"),
+        None => line.write_str("indef  "),
+    }
+}
+
+// Writes an element's place and lengths.
+fn write_place(line: &mut LineBuffer, item: &Item<'_>) {
+    let (offset, header) = (item.offset, item.header);
+    write!(line, "{offset:>7} {header:>2}+");
+    write_size(line, item.size)
+}
+
+// Whether a value is after the type.
+fn has_value(item: &Item<'_>) -> bool {
+    item.bit == PCBit::Primitive && item.tag != TAG_NULL
+}
+
+/// Writes an element's place, lengths and type, up to its value.
+pub fn write_head(line: &mut LineBuffer, item: &Item<'_>) {
+    write_place(line, item);
+    line.write_str(if item.in_string { ">" } else { " " });
+    let indent = 1 + 2 * usize::from(item.depth);
+    write!(line, "{:indent$}", "");
+    write_tag(line, item.tag);
+    if has_value(item) {
+        line.write_str(" ")
+    }
+}
