@@ -1,5 +1,5 @@
 -- What can be written of a filter, how deep it is, and its encoding, by what it is made of.
-use Rattle.std.proofs.Common.{◌≡◌, ◌<◌, ◌≤◌, ℕ, zero, suc, List, [], ◌∷◌, Option, Vec, Box, Result, length, get_or, map, sym, ap, subst, ◌∙◌, arith}
+use Rattle.std.proofs.Common.{◌≡◌, ◌<◌, ◌≤◌, ◌↔◌, ℕ, zero, suc, Bool, IsTrue, List, [], ◌∷◌, Option, Vec, Box, Result, length, get_or, map, sym, ap, subst, ◌∙◌, arith}
 use Rattle.std.specs.Global.{Global}
 use Rattle.std.specs.List.{AllByRecursion}
 use Rattle.yasna_base.specs.declared.error.ASN1Error.{ASN1Error}
@@ -15,7 +15,7 @@ use Rattle.ldap.specs.declared.filter.Filter.TheViews.{out-roll-Filter}
 use Rattle.ldap.specs.declared.filter_item.FilterItem.{FilterItem}
 use Rattle.ldap.specs.Filters.{Parted, parted, parted_of, depth_of, parted_top, largest, the_filter, whole}
 use Rattle.ldap.specs.FilterLaws.{depth_is}
-use Rattle.ldap.specs.RecursionLaws.{unfolded_can, unfolded_encoding}
+use Rattle.ldap.specs.RecursionLaws.{unfolded_can, folded_can, unfolded_encoding}
 use Rattle.ldap.specs.TheFilter.{the_step}
 
 pub in_and : (v : Filter) (fs : Vec Filter Global) → v ≡ And fs → parted_of v ≡ First fs
@@ -33,6 +33,10 @@ in_item v i e = ap (λ z. parted_of z) (e ∙ sym (rolls-Item i)) ∙ ap (λ z. 
 module _ (v : Filter) (p : Parted) (is : parted_of v ≡ p) where
   pub parts_can : the_filter.can v → whole.can p
   parts_can c = subst (λ z. whole.can z) is (unfolded_can the_step v c)
+
+  pub parts_tested : (r : Bool) → IsTrue r ↔ whole.can p → IsTrue r ↔ the_filter.can v
+  parts_tested r h =
+      (λ yes. folded_can the_step v (subst (λ z. whole.can z) (sym is) (h.0 yes)), λ c. h.1 (parts_can c))
 
   pub parts_deep : depth_of v ≡ parted_top p
   parts_deep = depth_is v ∙ ap (λ z. parted_top z) is

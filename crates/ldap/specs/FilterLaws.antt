@@ -37,6 +37,12 @@ all_map : {A : Type 0} {P Q : A → Type 0} → ((v : A) → P v → Q v) → (v
 all_map f [] p = tt
 all_map f (v ∷ vs) p = (f v p.0, all_map f vs p.1)
 
+-- the values within a value are less deep than it
+pub each_less : {A : Type 0} (depth : A → ℕ) (P Can : A → Type 0) (vs : List A) → AllByRecursion Can vs →
+    ((v : A) → Can v → depth v < suc (largest (map depth vs)) → P v) → AllByRecursion P vs
+each_less depth P Can [] c f = tt
+each_less depth P Can (v ∷ vs) c f = (f v c.0 (omega arith), each_less depth P Can vs c.1 (λ w d lt. f w d (omega (arith, lt))))
+
 set_map : {A : Type 0} (B C : Grammar A) (t : Tag) (m : BERMode) (n : ℕ) → ((v : A) (b : List ℕ) → B m n v b → C m n v b) → (vs : List A) (b : List ℕ) →
     IsSetOf B t m (suc n) vs b → IsSetOf C t m (suc n) vs b
 set_map B C t m n f vs b p =
@@ -87,7 +93,7 @@ group_follows depth k = record {
     ),
   );
   fits_within = λ x y m n f v p. (all_map f v.items p.0, p.1);
-  can_within = λ x y f v p. (all_map f v.items p.0, p.1);
+  can_within = λ x y v f p. (each_less depth y.can x.can v.items p.0 (λ w c less. f w less c), p.1);
   same_within = λ x y f v w e. record { items = e.items; permuted = e.permuted; each = each_wider f e.items w.items e.each };
   encoding_within = λ x y u m v h.
       let t = tag_or u (context k) in
@@ -105,7 +111,7 @@ negated_follows depth = record {
   within = λ x y u m n f v b p. record { contents = p.contents; element = p.element; meaning = f v.value p.contents p.meaning };
   any_within = λ x y u m n f g b p. record { contents = p.contents; element = p.element; meaning = g p.contents p.meaning };
   fits_within = λ x y m n f v p. f v.value p;
-  can_within = λ x y f v p. f v.value p;
+  can_within = λ x y v f p. f v.value (omega arith) p;
   same_within = λ x y f v w e. f v.value w.value e;
   encoding_within = λ x y u m v h. ap (λ c. canonical_element m (tag_or u (context 2)) Constructed c) (h v.value (omega arith));
   depth_within = λ x y m v h. ap (λ k. 1 + k) (h v.value (omega arith));
@@ -120,7 +126,7 @@ fixed_follows depth item = record {
   within = λ x y u m n f v b p. p;
   any_within = λ x y u m n f g b p. p;
   fits_within = λ x y m n f v p. p;
-  can_within = λ x y f v p. p;
+  can_within = λ x y v f p. p;
   same_within = λ x y f v w e. e;
   encoding_within = λ x y u m v h. refl;
   depth_within = λ x y m v h. refl;
@@ -147,10 +153,10 @@ module _ {A V W : Type 0} {depth : A → ℕ} {p : V → ℕ} {q : W → ℕ} {f
   fits_either x y m n h (First v) z = a.fits_within x y m n h v z
   fits_either x y m n h (Second v) z = b.fits_within x y m n h v z
 
-  can_either : (x y : Meaning A) → ((v : A) → x.can v → y.can v) → (v : Either V W) → (either_means (f x) (g x)).can v →
-      (either_means (f y) (g y)).can v
-  can_either x y h (First v) z = a.can_within x y h v z
-  can_either x y h (Second v) z = b.can_within x y h v z
+  can_either : (x y : Meaning A) (v : Either V W) → ((w : A) → depth w < either_top p q v → x.can w → y.can w) →
+      (either_means (f x) (g x)).can v → (either_means (f y) (g y)).can v
+  can_either x y (First v) h z = a.can_within x y v h z
+  can_either x y (Second v) h z = b.can_within x y v h z
 
   same_either : (x y : Meaning A) → ((v w : A) → x.same v w → y.same v w) → (v w : Either V W) → (either_means (f x) (g x)).same v w →
       (either_means (f y) (g y)).same v w
@@ -205,7 +211,7 @@ represented_follows {depth = depth} view top f a is = record {
   within = λ x y u m n h v b z. a.within x y u m n h (view v) b z;
   any_within = λ x y u m n h k b z. a.any_within x y u m n h k b z;
   fits_within = λ x y m n h v z. a.fits_within x y m n h (view v) z;
-  can_within = λ x y h v z. a.can_within x y h (view v) z;
+  can_within = λ x y v h z. a.can_within x y (view v) (λ w lt. h w (subst (λ k. depth w < k) (sym (is v)) lt)) z;
   same_within = λ x y h v w e. a.same_within x y h (view v) (view w) e;
   encoding_within = λ x y u m v h. a.encoding_within x y u m (view v) (λ w lt. h w (subst (λ k. depth w < k) (sym (is v)) lt));
   depth_within = λ x y m v h. a.depth_within x y m (view v) (λ w lt. h w (subst (λ k. depth w < k) (sym (is v)) lt));
@@ -255,9 +261,3 @@ parted_non_empty item non_empty x u m (Second (Second (Second i))) = non_empty u
 
 pub filter_non_empty : (item : Meaning FilterItem) → IsNonEmptyEncoding item → IsNonEmptyEncoding (filter_means item)
 filter_non_empty item non_empty u m v = parted_non_empty item non_empty (after_steps (filter_step item) (depth_of v)) u m (parted_of v)
-
--- the values within a filter are less deep than it
-pub each_less : (P : Filter → Type 0) (Can : Filter → Type 0) (vs : List Filter) → AllByRecursion Can vs →
-    ((v : Filter) → Can v → depth_of v < suc (largest (map depth_of vs)) → P v) → AllByRecursion P vs
-each_less P Can [] c f = tt
-each_less P Can (v ∷ vs) c f = (f v c.0 (omega arith), each_less P Can vs c.1 (λ w d lt. f w d (omega (arith, lt))))

@@ -42,8 +42,8 @@ means_within step depth = record {
   fits = λ m n v. (after_steps step (suc n)).fits m n v;
 }
 
--- A meaning that is made of another: with no level left it doesn't depend on that, else it depends on it at one level less. The encoding
--- of a value and its depth are made of those of values that are less deep than the value's top.
+-- A meaning that is made of another: with no level left it doesn't depend on that, else it depends on it at one level less. Whether a value
+-- can be written, its encoding and its depth depend on those of values that are less deep than the value's top.
 pub record FollowsDepth {A V : Type 0} (depth : A → ℕ) (top : V → ℕ) (make : Meaning A → Meaning V) : Type 1 where
   pub flat : (x y : Meaning A) (u : Option Tag) (m : BERMode) (v : V) (b : List ℕ) → (make x).under u m 0 v b → (make y).under u m 0 v b
   pub any_flat : (x y : Meaning A) (u : Option Tag) (m : BERMode) (b : List ℕ) → (make x).any_under u m 0 b → (make y).any_under u m 0 b
@@ -55,7 +55,7 @@ pub record FollowsDepth {A V : Type 0} (depth : A → ℕ) (top : V → ℕ) (ma
       (b : List ℕ) → (make x).any_under u m (suc n) b → (make y).any_under u m (suc n) b
   pub fits_within : (x y : Meaning A) (m : BERMode) (n : ℕ) → ((v : A) → x.fits m n v → y.fits m n v) →
       (v : V) → (make x).fits m (suc n) v → (make y).fits m (suc n) v
-  pub can_within : (x y : Meaning A) → ((v : A) → x.can v → y.can v) → (v : V) → (make x).can v → (make y).can v
+  pub can_within : (x y : Meaning A) (v : V) → ((w : A) → depth w < top v → x.can w → y.can w) → (make x).can v → (make y).can v
   pub same_within : (x y : Meaning A) → ((v w : A) → x.same v w → y.same v w) → (v w : V) → (make x).same v w → (make y).same v w
   pub encoding_within : (x y : Meaning A) (u : Option Tag) (m : BERMode) (v : V) →
       ((w : A) → depth w < top v → x.encoding_under None m w ≡ y.encoding_under None m w) → (make x).encoding_under u m v ≡ (make y).encoding_under u m v

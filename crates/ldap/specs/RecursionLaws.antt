@@ -79,6 +79,13 @@ module _ {A : Type 0} {step : Meaning A → Meaning A} {depth : A → ℕ} (s : 
       s.follows.encoding_within (after_steps step j) (after_steps step k) u m v
       (λ w less. encoding_any j k None m w (omega (arith, lt, less)) (omega (arith, le, less)))
 
+  -- a value that can be written after some steps can be written after more than it is deep
+  pub can_any : (j k : ℕ) (v : A) → depth v < k → (after_steps step j).can v → (after_steps step k).can v
+  can_any zero k v lt c = absurd c
+  can_any (suc j) zero v lt c = absurd (omega (arith, lt))
+  can_any (suc j) (suc k) v lt c =
+      s.follows.can_within (after_steps step j) (after_steps step k) v (λ w less d. can_any j k w (omega (arith, lt, less)) d) c
+
   -- the meaning satisfies the laws
   pub means_lawful : MeaningKeepsLaws (means_within step depth)
   means_lawful = record {
@@ -156,7 +163,12 @@ module _ {A : Type 0} {step : Meaning A → Meaning A} {depth : A → ℕ} (s : 
     where
       go : (k : ℕ) → (after_steps step k).can v → (step (means_within step depth)).can v
       go zero c = absurd c
-      go (suc k) c = s.follows.can_within (after_steps step k) (means_within step depth) (λ w d. (k, d)) v c
+      go (suc k) c = s.follows.can_within (after_steps step k) (means_within step depth) v (λ w less d. (k, d)) c
+
+  -- a value whose parts can be written can be written
+  pub folded_can : (v : A) → (step (means_within step depth)).can v → (means_within step depth).can v
+  folded_can v c =
+      (suc (depth v), s.follows.can_within (means_within step depth) (after_steps step (depth v)) v (λ w less d. can_any d.0 (depth v) w less d.1) c)
 
   pub unfolded_encoding : (u : Option Tag) (m : BERMode) (v : A) →
       (means_within step depth).encoding_under u m v ≡ (step (means_within step depth)).encoding_under u m v

@@ -6,7 +6,7 @@ use Rattle.yasna_base.specs.Digits.{IsBytes}
 use Rattle.yasna_notation.specs.Laws.{never_retagged}
 use Rattle.yasna_notation.specs.Notation.{Meaning, IsWrittenMeaning}
 use Rattle.ldap.specs.Recursion.{nothing_yet, after_steps, means_within, IsStep}
-use Rattle.ldap.specs.RecursionLaws.{under_any, encoding_any}
+use Rattle.ldap.specs.RecursionLaws.{under_any, can_any, encoding_any}
 
 nothing_written : {A : Type 0} → IsWrittenMeaning (nothing_yet {A = A})
 nothing_written = record {
@@ -28,13 +28,6 @@ module _ {A : Type 0} {step : Meaning A → Meaning A} {depth : A → ℕ} (s : 
   written_after zero = nothing_written
   written_after (suc k) = writes (after_steps step k) (written_after k)
 
-  -- a value that can be written after some steps can be written after more
-  can_more : (j k : ℕ) (v : A) → j ≤ k → (after_steps step j).can v → (after_steps step k).can v
-  can_more zero k v le c = absurd c
-  can_more (suc j) zero v le c = absurd (omega (arith, le))
-  can_more (suc j) (suc k) v le c =
-      s.follows.can_within (after_steps step j) (after_steps step k) (λ w d. can_more j k w (omega (arith, le)) d) v c
-
   -- more steps than a value is deep don't change the depth of its encoding
   depth_any : (j k : ℕ) (m : BERMode) (v : A) → depth v < j → depth v < k → (after_steps step j).depth m v ≡ (after_steps step k).depth m v
   depth_any zero k m v lt le = absurd (omega (arith, lt))
@@ -50,7 +43,7 @@ module _ {A : Type 0} {step : Meaning A → Meaning A} {depth : A → ℕ} (s : 
         in_bytes = λ m v can short.
             let top = suc (can.0 + depth v) in
             let e = encoding_any s (suc (depth v)) top None m v (omega arith) (omega arith) in
-            subst (λ b. IsBytes b) (sym e) ((written_after top).own.has.in_bytes m v (can_more can.0 top v (omega arith) can.1)
+            subst (λ b. IsBytes b) (sym e) ((written_after top).own.has.in_bytes m v (can_any s can.0 top v (omega arith) can.1)
             (subst (λ b. length b < 2 ^ 64) e short));
         holds = λ m o n v h can level short.
             let top = suc (can.0 + n + depth v) in
@@ -58,7 +51,7 @@ module _ {A : Type 0} {step : Meaning A → Meaning A} {depth : A → ℕ} (s : 
             let k = depth_any (suc (depth v)) top m v (omega arith) (omega arith) in
             under_any s n top (suc n) None o v ((after_steps step (suc (depth v))).encoding_under None m v) (omega arith)
             (subst (λ b. (after_steps step top).under None o n v b) (sym e)
-            ((written_after top).own.has.holds m o n v h (can_more can.0 top v (omega arith) can.1) (subst (λ i. i ≤ n) k level)
+            ((written_after top).own.has.holds m o n v h (can_any s can.0 top v (omega arith) can.1) (subst (λ i. i ≤ n) k level)
             (subst (λ b. length b < 2 ^ 64) e short)));
         only = λ m n v b h p.
             let top = suc (n + depth v) in

@@ -5,7 +5,7 @@
 //!     ...,
 //!     vals (SIZE (1..MAX)) })
 //! ```
-ghost use Rattle.std.specs.Prelude.{◌≡◌, refl};
+ghost use Rattle.std.specs.Prelude.{◌≡◌, ◌↔◌, IsTrue, refl};
 ghost use Rattle.yasna_notation.specs.Laws.{represented_lawful, element_non_empty};
 ghost use Rattle.yasna_notation.specs.Making.{in_sequence, in_set_of, part, set_not_empty};
 ghost use Rattle.yasna_notation.specs.Notation.{represented_by};
@@ -18,6 +18,7 @@ use yasna::tags::TAG_SEQUENCE;
 use yasna::{ASN1Result, BERMode, BERReader, DERWriter, PrependBuffer, Tag};
 use yasna_notation::{Bounded, Message, NotEmpty, Notation, Represents, Sequence, SetOf, read_as};
 use yasna_notation_types::Rest;
+use yasna_notation_validity::{Checked, accepts_fields};
 
 type Parts = (
     Vec<u8>,
@@ -96,4 +97,10 @@ impl Notation for Attribute {
 
 impl Message for Attribute {
     ghost is_unambiguous = { refl };
+}
+
+impl Checked for Attribute {
+    fn accepts(value: &Attribute) -> bool {
+        accepts_fields::<Parts, _>((&value.attribute_type, (&value.vals, &value.unknown)))
+    }
 }

@@ -9,7 +9,7 @@
 //! AssertionValue       ::= OCTET STRING
 //! LDAPString           ::= OCTET STRING
 //! ```
-ghost use Rattle.std.specs.Prelude.{◌≡◌, refl};
+ghost use Rattle.std.specs.Prelude.{◌≡◌, ◌↔◌, IsTrue, refl};
 ghost use Rattle.yasna_notation.specs.Laws.{represented_lawful, element_non_empty};
 ghost use Rattle.yasna_notation.specs.Making.{in_sequence, part};
 ghost use Rattle.yasna_notation.specs.Notation.{represented_by};
@@ -22,6 +22,7 @@ ghost use Rattle.yasna_notation.specs.contracts.canonical.VecU8CanonicalNotation
 use yasna::tags::TAG_SEQUENCE;
 use yasna::{ASN1Result, BERMode, BERReader, DERWriter, PrependBuffer, Tag};
 use yasna_notation::{CanonicalNotation, Message, Notation, Represents, Sequence, read_as};
+use yasna_notation_validity::{Checked, accepts_fields};
 
 type Parts = (Vec<u8>, (Vec<u8>, ()));
 
@@ -105,4 +106,10 @@ impl Message for AttributeValueAssertion {
 impl CanonicalNotation for AttributeValueAssertion {
     ghost written = { λ _. represented_written ⟦<AttributeValueAssertion as Represents<Fields>>⟧.value_of (sequence_written (part_written (octets_written
         refl).own (part_written (octets_written refl).own no_part_written))) };
+}
+
+impl Checked for AttributeValueAssertion {
+    fn accepts(value: &AttributeValueAssertion) -> bool {
+        accepts_fields::<Parts, _>((&value.attribute_desc, (&value.assertion_value, ())))
+    }
 }

@@ -6,7 +6,7 @@
 //!     sasl    [3] SaslCredentials,
 //!     ... }
 //! ```
-ghost use Rattle.std.specs.Prelude.{◌≡◌, refl};
+ghost use Rattle.std.specs.Prelude.{◌≡◌, ◌↔◌, IsTrue, refl};
 ghost use Rattle.yasna_notation.specs.declared.choices.Either.TheVariants.{First, Second};
 ghost use Rattle.ldap.specs.declared.authentication.AuthenticationChoice.TheVariants.{Simple, Sasl, Unknown};
 
@@ -16,6 +16,7 @@ use yasna::{ASN1Result, BERMode, DERWriter, PrependBuffer, Tag};
 use yasna_notation::Either::{First, Second};
 use yasna_notation::{Context, DefinedType, Either, Implicit, Notation};
 use yasna_notation_types::OpenChoice;
+use yasna_notation_validity::{Checked, CheckedType};
 
 type SimpleNotation = Implicit<Context<0>, Vec<u8>>;
 
@@ -81,4 +82,14 @@ impl DefinedType for AuthenticationChoice {
     }
 
     ghost unambiguous = { refl };
+}
+
+impl CheckedType for AuthenticationChoice {
+    fn accepts_value(&self) -> bool {
+        match self {
+            AuthenticationChoice::Simple(password) => SimpleNotation::accepts(password),
+            AuthenticationChoice::Sasl(credentials) => SaslNotation::accepts(credentials),
+            AuthenticationChoice::Unknown(other) => TaggedDerValue::accepts(other),
+        }
+    }
 }

@@ -10,7 +10,7 @@
 //! LDAPDN     ::= LDAPString
 //! LDAPString ::= OCTET STRING
 //! ```
-ghost use Rattle.std.specs.Prelude.{◌≡◌, refl};
+ghost use Rattle.std.specs.Prelude.{◌≡◌, ◌↔◌, IsTrue, refl};
 ghost use Rattle.std.proofs.Common.{arith};
 ghost use Rattle.yasna_notation.specs.Laws.{represented_lawful, element_non_empty};
 ghost use Rattle.yasna_notation.specs.Making.{in_application, in_sequence, alternative, in_implicit, part, in_bound, from_to};
@@ -31,6 +31,7 @@ use yasna_notation::{
 };
 use yasna_notation_tags::{implicit_fields_len, prepend_implicit_fields, write_implicit_fields};
 use yasna_notation_types::Rest;
+use yasna_notation_validity::{Checked, accepts_fields};
 
 type Parts = (
     Bounded<u64, FromTo<1, 127>>,
@@ -124,4 +125,13 @@ impl Notation for BindRequest {
 
 impl Message for BindRequest {
     ghost is_unambiguous = { refl };
+}
+
+impl Checked for BindRequest {
+    fn accepts(value: &BindRequest) -> bool {
+        accepts_fields::<Parts, _>((
+            &value.version,
+            (&value.name, (&value.authentication, &value.unknown)),
+        ))
+    }
 }

@@ -6,7 +6,7 @@
 //!     serverSaslCreds  [7] OCTET STRING OPTIONAL,
 //!     ... }
 //! ```
-ghost use Rattle.std.specs.Prelude.{◌≡◌, ◌∷◌, [], refl};
+ghost use Rattle.std.specs.Prelude.{◌≡◌, ◌↔◌, ◌∷◌, [], IsTrue, refl};
 ghost use Rattle.std.proofs.Common.{arith};
 ghost use Rattle.yasna_notation.specs.Laws.{represented_lawful, element_non_empty};
 ghost use Rattle.yasna_notation.specs.Making.{context, in_application, in_sequence, in_sequence_of, part, in_implicit, not_empty};
@@ -29,6 +29,7 @@ use yasna_notation::{
 };
 use yasna_notation_tags::{implicit_fields_len, prepend_implicit_fields, write_implicit_fields};
 use yasna_notation_types::{Named, Others, Possible};
+use yasna_notation_validity::{Checked, accepts_fields};
 
 type Referral = Implicit<Context<3>, Bounded<SequenceOf<Vec<u8>>, NotEmpty>>;
 
@@ -147,4 +148,16 @@ impl Notation for BindResponse {
 
 impl Message for BindResponse {
     ghost is_unambiguous = { refl };
+}
+
+impl Checked for BindResponse {
+    fn accepts(value: &BindResponse) -> bool {
+        let outcome = &value.result;
+        let ends = (
+            &outcome.referral,
+            (&value.server_sasl_creds, &outcome.unknown),
+        );
+        let strings = (&outcome.matched_dn, (&outcome.diagnostic_message, ends));
+        accepts_fields::<Parts, _>((&outcome.result_code, strings))
+    }
 }

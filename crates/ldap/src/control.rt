@@ -9,7 +9,7 @@
 //!
 //! LDAPOID ::= OCTET STRING
 //! ```
-ghost use Rattle.std.specs.Prelude.{◌≡◌, ◌∷◌, [], false, not, refl};
+ghost use Rattle.std.specs.Prelude.{◌≡◌, ◌↔◌, ◌∷◌, [], IsTrue, false, not, refl};
 ghost use Rattle.yasna_notation.specs.Laws.{represented_lawful, element_non_empty};
 ghost use Rattle.yasna_notation.specs.Making.{in_sequence, part};
 ghost use Rattle.yasna_notation.specs.Notation.{represented_by};
@@ -26,6 +26,7 @@ use yasna::tags::TAG_SEQUENCE;
 use yasna::{ASN1Result, BERMode, BERReader, DERWriter, PrependBuffer, Tag};
 use yasna_notation::{Choice, False, Message, Notation, Represents, Sequence, read_as};
 use yasna_notation_types::{Others, Possible, PossibleDefault};
+use yasna_notation_validity::{Checked, accepts_fields};
 
 type Unknown = Others<Choice<(bool, (Vec<u8>,))>>;
 
@@ -119,4 +120,13 @@ impl Notation for Control {
 
 impl Message for Control {
     ghost is_unambiguous = { refl };
+}
+
+impl Checked for Control {
+    fn accepts(value: &Control) -> bool {
+        accepts_fields::<Parts, _>((
+            &value.control_type,
+            (&value.criticality, (&value.control_value, &value.unknown)),
+        ))
+    }
 }

@@ -13,7 +13,7 @@
 //! AttributeDescription ::= LDAPString
 //! LDAPString           ::= OCTET STRING
 //! ```
-ghost use Rattle.std.specs.Prelude.{◌≡◌, [], refl};
+ghost use Rattle.std.specs.Prelude.{◌≡◌, ◌↔◌, [], IsTrue, refl};
 ghost use Rattle.std.proofs.Common.{arith};
 ghost use Rattle.yasna_notation.specs.Laws.{represented_lawful, element_non_empty};
 ghost use Rattle.yasna_notation.specs.Making.{in_choice, alternative, in_implicit};
@@ -41,6 +41,7 @@ use yasna_notation::{
     Alternatives, CanonicalNotation, Choice, Context, Either, Implicit, Message, Notation,
     Represents, read_as,
 };
+use yasna_notation_validity::Checked;
 
 type EqualityMatchNotation = Implicit<Context<3>, AttributeValueAssertion>;
 
@@ -212,4 +213,18 @@ impl CanonicalNotation for FilterItem {
         (under_context 6 (omega arith) (assertion_written refl)).own (alternative_written (under_context 7 (omega arith) (octets_written refl)).own
         (alternative_written (under_context 8 (omega arith) (assertion_written refl)).own (under_context 9 (omega arith) (matching_written
         refl)).own))))))) };
+}
+
+impl Checked for FilterItem {
+    fn accepts(value: &FilterItem) -> bool {
+        match value {
+            FilterItem::EqualityMatch(chosen) => EqualityMatchNotation::accepts(chosen),
+            FilterItem::Substrings(chosen) => SubstringsNotation::accepts(chosen),
+            FilterItem::GreaterOrEqual(chosen) => GreaterOrEqualNotation::accepts(chosen),
+            FilterItem::LessOrEqual(chosen) => LessOrEqualNotation::accepts(chosen),
+            FilterItem::Present(chosen) => PresentNotation::accepts(chosen),
+            FilterItem::ApproxMatch(chosen) => ApproxMatchNotation::accepts(chosen),
+            FilterItem::ExtensibleMatch(chosen) => ExtensibleMatchNotation::accepts(chosen),
+        }
+    }
 }

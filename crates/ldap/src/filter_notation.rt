@@ -1,9 +1,10 @@
 //! Filters as a notation of their own (RFC 4511, 4.5.1.7). Within one level less are the filters within one.
-ghost use Rattle.std.specs.Prelude.{◌≡◌, refl};
+ghost use Rattle.std.specs.Prelude.{◌≡◌, ◌↔◌, IsTrue, refl};
 ghost use Rattle.ldap.specs.Filters.{the_filter};
 ghost use Rattle.ldap.specs.TheFilter.{the_filter_lawful, the_filter_non_empty, the_filter_written};
 
 use crate::filter::Filter;
+use crate::filter_checking::accepts_filter;
 use crate::filter_item::FilterItem;
 use crate::filter_lengths::filter_len;
 use crate::filter_prepending::prepend_filter;
@@ -11,6 +12,7 @@ use crate::filter_reading::{is_context, read_filter};
 use crate::filter_writing::write_filter;
 use yasna::{ASN1Result, BERMode, BERReader, DERWriter, PrependBuffer, Tag};
 use yasna_notation::{CanonicalNotation, Message, Notation};
+use yasna_notation_validity::Checked;
 
 impl Notation for Filter {
     type Value = Filter;
@@ -53,4 +55,10 @@ impl Message for Filter {
 
 impl CanonicalNotation for Filter {
     ghost written = { λ _. the_filter_written };
+}
+
+impl Checked for Filter {
+    fn accepts(value: &Filter) -> bool {
+        accepts_filter(value)
+    }
 }

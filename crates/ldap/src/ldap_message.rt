@@ -12,7 +12,7 @@
 //!
 //! maxInt INTEGER ::= 2147483647
 //! ```
-ghost use Rattle.std.specs.Prelude.{◌≡◌, ◌∷◌, [], refl};
+ghost use Rattle.std.specs.Prelude.{◌≡◌, ◌↔◌, ◌∷◌, [], IsTrue, refl};
 ghost use Rattle.std.proofs.Common.{arith};
 ghost use Rattle.yasna_notation.specs.Laws.{represented_lawful, element_non_empty};
 ghost use Rattle.yasna_notation.specs.Making.{context, in_sequence, in_sequence_of, part, in_implicit, at_most};
@@ -33,6 +33,7 @@ use yasna_notation::{
     read_as,
 };
 use yasna_notation_types::{Others, Possible};
+use yasna_notation_validity::{Checked, accepts_fields};
 
 type MessageId = Bounded<u64, AtMost<2147483647>>;
 
@@ -133,4 +134,13 @@ impl Notation for LdapMessage {
 
 impl Message for LdapMessage {
     ghost is_unambiguous = { refl };
+}
+
+impl Checked for LdapMessage {
+    fn accepts(message: &LdapMessage) -> bool {
+        accepts_fields::<Parts, _>((
+            &message.message_id,
+            (&message.protocol_op, (&message.controls, &message.unknown)),
+        ))
+    }
 }

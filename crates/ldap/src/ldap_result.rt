@@ -13,7 +13,7 @@
 //! LDAPDN     ::= LDAPString
 //! LDAPString ::= OCTET STRING
 //! ```
-ghost use Rattle.std.specs.Prelude.{◌≡◌, ◌∷◌, [], refl};
+ghost use Rattle.std.specs.Prelude.{◌≡◌, ◌↔◌, ◌∷◌, [], IsTrue, refl};
 ghost use Rattle.std.proofs.Common.{arith};
 ghost use Rattle.yasna_notation.specs.Laws.{represented_lawful, element_non_empty};
 ghost use Rattle.yasna_notation.specs.Making.{context, in_sequence, in_sequence_of, part, in_implicit, not_empty};
@@ -34,6 +34,7 @@ use yasna_notation::{
     read_as,
 };
 use yasna_notation_types::{Named, Others, Possible};
+use yasna_notation_validity::{Checked, accepts_fields};
 
 type Referral = Implicit<Context<3>, Bounded<SequenceOf<Vec<u8>>, NotEmpty>>;
 
@@ -147,4 +148,16 @@ impl Notation for LdapResult {
 
 impl Message for LdapResult {
     ghost is_unambiguous = { refl };
+}
+
+impl Checked for LdapResult {
+    fn accepts(value: &LdapResult) -> bool {
+        accepts_fields::<Parts, _>((
+            &value.result_code,
+            (
+                &value.matched_dn,
+                (&value.diagnostic_message, (&value.referral, &value.unknown)),
+            ),
+        ))
+    }
 }

@@ -1,6 +1,7 @@
 //! Messages of the Lightweight Directory Access Protocol (RFC 4511): those by which a client binds, searches and unbinds.
 //!
 //! Each type is a notation itself. `yasna_notation::Encoded` of it has the traits, so `decode_ber` reads an `Encoded<LdapMessage>`.
+//! `is_valid` of `yasna_notation_validity` tests whether a value that was filled from input can be written.
 //!
 //! The protocol accepts only definite lengths of BER, OCTET STRINGs in one piece, and TRUE as 255 (RFC 4511, 5.1). `encode_der` writes
 //! them so, but `decode_ber` reads all of BER.
@@ -23,7 +24,8 @@
 //! | `bind_response`, `unbind_request` | responses to them, and requests to end a session |
 //! | `search_request`, `scope`, `deref_aliases` | requests to search, how deep they go, and which aliases they follow |
 //! | `filter`, `filter_item` | filters, and those that aren't made of other filters |
-//! | `filter_reading`, `filter_writing`, `filter_prepending`, `filter_lengths`, `filter_notation` | how filters are read and written, how long they are, and their laws |
+//! | `filter_reading`, `filter_writing`, `filter_prepending`, `filter_lengths` | how filters are read and written, and how long they are |
+//! | `filter_checking`, `filter_notation` | which filters can be written, and their laws |
 //! | `substring`, `substring_filter`, `matching_rule_assertion`, `attribute_value_assertion` | the assertions of filters |
 //! | `search_result_entry`, `search_result_done`, `search_result_reference` | what a search returns |
 //! | `partial_attribute`, `attribute` | attributes |
@@ -37,6 +39,7 @@ mod bind_response;
 mod control;
 mod deref_aliases;
 mod filter;
+mod filter_checking;
 mod filter_item;
 mod filter_lengths;
 mod filter_notation;

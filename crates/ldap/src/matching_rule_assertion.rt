@@ -12,7 +12,7 @@
 //! AssertionValue       ::= OCTET STRING
 //! LDAPString           ::= OCTET STRING
 //! ```
-ghost use Rattle.std.specs.Prelude.{◌≡◌, false, not, refl};
+ghost use Rattle.std.specs.Prelude.{◌≡◌, ◌↔◌, IsTrue, false, not, refl};
 ghost use Rattle.std.proofs.Common.{arith};
 ghost use Rattle.yasna_notation.specs.Laws.{represented_lawful, element_non_empty};
 ghost use Rattle.yasna_notation.specs.Making.{in_sequence, in_implicit, part, optional_part, default_part};
@@ -31,6 +31,7 @@ use yasna_notation::{
     CanonicalNotation, Context, Default, DefaultValue, Implicit, Message, Notation, Optional,
     Represents, Sequence, read_as,
 };
+use yasna_notation_validity::{Checked, accepts_fields};
 
 type MatchingRule = Optional<Implicit<Context<1>, Vec<u8>>>;
 
@@ -175,4 +176,16 @@ impl CanonicalNotation for MatchingRuleAssertion {
         1 (omega arith) (octets_written refl)).own (optional_written (under_context 2 (omega arith) (octets_written refl)).own (part_written
         (under_context 3 (omega arith) (octets_written refl)).own (unset_written (under_context 4 (omega arith) (flag_written refl)).own
         no_part_written))))) };
+}
+
+impl Checked for MatchingRuleAssertion {
+    fn accepts(value: &MatchingRuleAssertion) -> bool {
+        accepts_fields::<Parts, _>((
+            &value.matching_rule,
+            (
+                &value.attribute_type,
+                (&value.match_value, (&value.dn_attributes, ())),
+            ),
+        ))
+    }
 }

@@ -10,7 +10,7 @@
 //! AttributeValue       ::= OCTET STRING
 //! LDAPString           ::= OCTET STRING
 //! ```
-ghost use Rattle.std.specs.Prelude.{◌≡◌, refl};
+ghost use Rattle.std.specs.Prelude.{◌≡◌, ◌↔◌, IsTrue, refl};
 ghost use Rattle.yasna_notation.specs.Laws.{represented_lawful, element_non_empty};
 ghost use Rattle.yasna_notation.specs.Making.{in_sequence, in_set_of, part};
 ghost use Rattle.yasna_notation.specs.Notation.{represented_by};
@@ -23,6 +23,7 @@ use yasna::tags::TAG_SEQUENCE;
 use yasna::{ASN1Result, BERMode, BERReader, DERWriter, PrependBuffer, Tag};
 use yasna_notation::{Message, Notation, Represents, Sequence, SetOf, read_as};
 use yasna_notation_types::Rest;
+use yasna_notation_validity::{Checked, accepts_fields};
 
 type Parts = (Vec<u8>, (SetOf<Vec<u8>>, Rest<TaggedDerValue>));
 
@@ -102,4 +103,10 @@ impl Notation for PartialAttribute {
 
 impl Message for PartialAttribute {
     ghost is_unambiguous = { refl };
+}
+
+impl Checked for PartialAttribute {
+    fn accepts(value: &PartialAttribute) -> bool {
+        accepts_fields::<Parts, _>((&value.attribute_type, (&value.vals, &value.unknown)))
+    }
 }

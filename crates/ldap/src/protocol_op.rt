@@ -11,7 +11,7 @@
 //!     searchResultReference  SearchResultReference,
 //!     ... }
 //! ```
-ghost use Rattle.std.specs.Prelude.{◌≡◌, [], refl};
+ghost use Rattle.std.specs.Prelude.{◌≡◌, ◌↔◌, [], IsTrue, refl};
 ghost use Rattle.yasna_notation.specs.Laws.{represented_lawful, element_non_empty, raw_non_empty};
 ghost use Rattle.yasna_notation.specs.Making.{alternative};
 ghost use Rattle.yasna_notation.specs.Notation.{represented_by};
@@ -38,6 +38,7 @@ use yasna::{ASN1Result, BERMode, BERReader, DERWriter, PrependBuffer, Tag};
 use yasna_notation::Either::{First, Second};
 use yasna_notation::{Choice, Either, Message, Notation, Represents, read_as};
 use yasna_notation_types::OpenChoice;
+use yasna_notation_validity::Checked;
 
 type Results = (
     SearchRequest,
@@ -200,4 +201,21 @@ impl Notation for ProtocolOp {
 
 impl Message for ProtocolOp {
     ghost is_unambiguous = { refl };
+}
+
+impl Checked for ProtocolOp {
+    fn accepts(value: &ProtocolOp) -> bool {
+        match value {
+            ProtocolOp::BindRequest(operation) => BindRequest::accepts(operation),
+            ProtocolOp::BindResponse(operation) => BindResponse::accepts(operation),
+            ProtocolOp::UnbindRequest(operation) => UnbindRequest::accepts(operation),
+            ProtocolOp::SearchRequest(operation) => SearchRequest::accepts(operation),
+            ProtocolOp::SearchResultEntry(operation) => SearchResultEntry::accepts(operation),
+            ProtocolOp::SearchResultDone(operation) => SearchResultDone::accepts(operation),
+            ProtocolOp::SearchResultReference(operation) => SearchResultReference::accepts(
+                operation,
+            ),
+            ProtocolOp::Unknown(operation) => TaggedDerValue::accepts(operation),
+        }
+    }
 }

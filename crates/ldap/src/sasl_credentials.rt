@@ -8,7 +8,7 @@
 //!
 //! LDAPString ::= OCTET STRING
 //! ```
-ghost use Rattle.std.specs.Prelude.{◌≡◌, ◌∷◌, [], refl};
+ghost use Rattle.std.specs.Prelude.{◌≡◌, ◌↔◌, ◌∷◌, [], IsTrue, refl};
 ghost use Rattle.yasna_notation.specs.Laws.{represented_lawful, element_non_empty};
 ghost use Rattle.yasna_notation.specs.Making.{in_sequence, part};
 ghost use Rattle.yasna_notation.specs.Notation.{represented_by};
@@ -22,6 +22,7 @@ use yasna::tags::TAG_SEQUENCE;
 use yasna::{ASN1Result, BERMode, BERReader, DERWriter, PrependBuffer, Tag};
 use yasna_notation::{Message, Notation, Represents, Sequence, read_as};
 use yasna_notation_types::{Others, Possible};
+use yasna_notation_validity::{Checked, accepts_fields};
 
 type Parts = (Vec<u8>, Possible<Vec<u8>, Others<Vec<u8>>>);
 
@@ -100,4 +101,10 @@ impl Notation for SaslCredentials {
 
 impl Message for SaslCredentials {
     ghost is_unambiguous = { refl };
+}
+
+impl Checked for SaslCredentials {
+    fn accepts(value: &SaslCredentials) -> bool {
+        accepts_fields::<Parts, _>((&value.mechanism, (&value.credentials, &value.unknown)))
+    }
 }

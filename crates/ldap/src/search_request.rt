@@ -18,7 +18,7 @@
 //!
 //! maxInt INTEGER ::= 2147483647
 //! ```
-ghost use Rattle.std.specs.Prelude.{◌≡◌, refl};
+ghost use Rattle.std.specs.Prelude.{◌≡◌, ◌↔◌, IsTrue, refl};
 ghost use Rattle.std.proofs.Common.{arith};
 ghost use Rattle.yasna_notation.specs.Laws.{represented_lawful, element_non_empty};
 ghost use Rattle.yasna_notation.specs.Making.{in_application, in_sequence, in_sequence_of, part, at_most};
@@ -45,6 +45,7 @@ use yasna_notation::{
 };
 use yasna_notation_tags::{implicit_fields_len, prepend_implicit_fields, write_implicit_fields};
 use yasna_notation_types::{Named, Rest};
+use yasna_notation_validity::{Checked, accepts_fields};
 
 type MaxInt = Bounded<u64, AtMost<2147483647>>;
 
@@ -207,4 +208,28 @@ impl Notation for SearchRequest {
 
 impl Message for SearchRequest {
     ghost is_unambiguous = { refl };
+}
+
+impl Checked for SearchRequest {
+    fn accepts(request: &SearchRequest) -> bool {
+        accepts_fields::<Parts, _>((
+            &request.base_object,
+            (
+                &request.scope,
+                (
+                    &request.deref_aliases,
+                    (
+                        &request.size_limit,
+                        (
+                            &request.time_limit,
+                            (
+                                &request.types_only,
+                                (&request.filter, (&request.attributes, &request.unknown)),
+                            ),
+                        ),
+                    ),
+                ),
+            ),
+        ))
+    }
 }

@@ -3,7 +3,7 @@
 //! ```text
 //! SearchResultDone ::= [APPLICATION 5] LDAPResult
 //! ```
-ghost use Rattle.std.specs.Prelude.{◌≡◌, refl};
+ghost use Rattle.std.specs.Prelude.{◌≡◌, ◌↔◌, IsTrue, refl};
 ghost use Rattle.std.proofs.Common.{arith};
 ghost use Rattle.yasna_notation.specs.Laws.{represented_lawful, element_non_empty};
 ghost use Rattle.yasna_notation.specs.Making.{in_application};
@@ -13,6 +13,7 @@ ghost use Rattle.ldap.specs.contracts.ldap_result.LdapResultNotation.TheImpl.Law
 use crate::ldap_result::LdapResult;
 use yasna::{ASN1Result, BERMode, BERReader, DERWriter, PrependBuffer, Tag};
 use yasna_notation::{Application, Implicit, Message, Notation, Represents, read_as};
+use yasna_notation_validity::Checked;
 
 type Notated = Implicit<Application<5>, LdapResult>;
 
@@ -69,4 +70,10 @@ impl Notation for SearchResultDone {
 
 impl Message for SearchResultDone {
     ghost is_unambiguous = { refl };
+}
+
+impl Checked for SearchResultDone {
+    fn accepts(value: &SearchResultDone) -> bool {
+        Notated::accepts(&value.result)
+    }
 }

@@ -10,7 +10,7 @@
 //! LDAPDN               ::= LDAPString
 //! LDAPString           ::= OCTET STRING
 //! ```
-ghost use Rattle.std.specs.Prelude.{◌≡◌, refl};
+ghost use Rattle.std.specs.Prelude.{◌≡◌, ◌↔◌, IsTrue, refl};
 ghost use Rattle.std.proofs.Common.{arith};
 ghost use Rattle.yasna_notation.specs.Laws.{represented_lawful, element_non_empty};
 ghost use Rattle.yasna_notation.specs.Making.{in_application, in_sequence, in_sequence_of, part};
@@ -28,6 +28,7 @@ use yasna_notation::{
 };
 use yasna_notation_tags::{implicit_fields_len, prepend_implicit_fields, write_implicit_fields};
 use yasna_notation_types::Rest;
+use yasna_notation_validity::{Checked, accepts_fields};
 
 type Parts = (
     Vec<u8>,
@@ -111,4 +112,10 @@ impl Notation for SearchResultEntry {
 
 impl Message for SearchResultEntry {
     ghost is_unambiguous = { refl };
+}
+
+impl Checked for SearchResultEntry {
+    fn accepts(value: &SearchResultEntry) -> bool {
+        accepts_fields::<Parts, _>((&value.object_name, (&value.attributes, &value.unknown)))
+    }
 }

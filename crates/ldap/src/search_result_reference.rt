@@ -6,7 +6,7 @@
 //! URI        ::= LDAPString
 //! LDAPString ::= OCTET STRING
 //! ```
-ghost use Rattle.std.specs.Prelude.{◌≡◌, refl};
+ghost use Rattle.std.specs.Prelude.{◌≡◌, ◌↔◌, IsTrue, refl};
 ghost use Rattle.std.proofs.Common.{arith};
 ghost use Rattle.yasna_notation.specs.Laws.{represented_lawful, element_non_empty};
 ghost use Rattle.yasna_notation.specs.Making.{in_application, in_sequence_of, not_empty};
@@ -21,6 +21,7 @@ use yasna_notation::{
     Application, Bounded, CanonicalNotation, Implicit, Message, NotEmpty, Notation, Represents,
     SequenceOf, read_as,
 };
+use yasna_notation_validity::Checked;
 
 type Notated = Implicit<Application<19>, Bounded<SequenceOf<Vec<u8>>, NotEmpty>>;
 
@@ -88,4 +89,10 @@ impl Message for SearchResultReference {
 impl CanonicalNotation for SearchResultReference {
     ghost written = { λ _. represented_written ⟦<SearchResultReference as Represents<Vec<Vec<u8>>>>⟧.value_of (under_application 19 (omega arith)
         (non_empty_list_written (sequence_of_written (octets_written refl).own))) };
+}
+
+impl Checked for SearchResultReference {
+    fn accepts(value: &SearchResultReference) -> bool {
+        Notated::accepts(&value.uris)
+    }
 }

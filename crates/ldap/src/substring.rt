@@ -8,7 +8,7 @@
 //!
 //! AssertionValue ::= OCTET STRING
 //! ```
-ghost use Rattle.std.specs.Prelude.{◌≡◌, [], refl};
+ghost use Rattle.std.specs.Prelude.{◌≡◌, ◌↔◌, [], IsTrue, refl};
 ghost use Rattle.std.proofs.Common.{arith};
 ghost use Rattle.yasna_notation.specs.Laws.{represented_lawful, octets_non_empty};
 ghost use Rattle.yasna_notation.specs.Making.{in_choice, alternative, in_implicit};
@@ -26,6 +26,7 @@ use yasna_notation::{
     Alternatives, CanonicalNotation, Choice, Context, Either, Implicit, Message, Notation,
     Represents, read_as,
 };
+use yasna_notation_validity::Checked;
 
 type InitialNotation = Implicit<Context<0>, Vec<u8>>;
 
@@ -118,4 +119,14 @@ impl CanonicalNotation for Substring {
     ghost written = { λ _. represented_written ⟦<Substring as Represents<Fields>>⟧.value_of (choice_written_as ⟦<Notated as Notation>⟧.means.encoding_under
         (alternative_written (under_context 0 (omega arith) (octets_written refl)).own (alternative_written (under_context 1 (omega arith)
         (octets_written refl)).own (under_context 2 (omega arith) (octets_written refl)).own))) };
+}
+
+impl Checked for Substring {
+    fn accepts(value: &Substring) -> bool {
+        match value {
+            Substring::Initial(octets) => InitialNotation::accepts(octets),
+            Substring::Any(octets) => AnyNotation::accepts(octets),
+            Substring::Final(octets) => FinalNotation::accepts(octets),
+        }
+    }
 }

@@ -8,7 +8,7 @@
 //! AttributeDescription ::= LDAPString
 //! LDAPString           ::= OCTET STRING
 //! ```
-ghost use Rattle.std.specs.Prelude.{◌≡◌, refl};
+ghost use Rattle.std.specs.Prelude.{◌≡◌, ◌↔◌, IsTrue, refl};
 ghost use Rattle.yasna_notation.specs.Laws.{represented_lawful, element_non_empty};
 ghost use Rattle.yasna_notation.specs.Making.{in_sequence, in_sequence_of, not_empty, part};
 ghost use Rattle.yasna_notation.specs.Notation.{represented_by};
@@ -27,6 +27,7 @@ use yasna_notation::{
     Bounded, CanonicalNotation, Message, NotEmpty, Notation, Represents, Sequence, SequenceOf,
     read_as,
 };
+use yasna_notation_validity::{Checked, accepts_fields};
 
 type Parts = (Vec<u8>, (Bounded<SequenceOf<Substring>, NotEmpty>, ()));
 
@@ -104,4 +105,10 @@ impl Message for SubstringFilter {
 impl CanonicalNotation for SubstringFilter {
     ghost written = { λ _. represented_written ⟦<SubstringFilter as Represents<Fields>>⟧.value_of (sequence_written (part_written (octets_written
         refl).own (part_written (non_empty_list_written (sequence_of_written (substring_written refl).own)).own no_part_written))) };
+}
+
+impl Checked for SubstringFilter {
+    fn accepts(value: &SubstringFilter) -> bool {
+        accepts_fields::<Parts, _>((&value.attribute_type, (&value.substrings, ())))
+    }
 }

@@ -3,7 +3,7 @@
 //! ```text
 //! UnbindRequest ::= [APPLICATION 2] NULL
 //! ```
-ghost use Rattle.std.specs.Prelude.{◌≡◌, refl};
+ghost use Rattle.std.specs.Prelude.{◌≡◌, ◌↔◌, IsTrue, refl};
 ghost use Rattle.std.proofs.Common.{arith};
 ghost use Rattle.yasna_notation.specs.Laws.{represented_lawful, element_non_empty};
 ghost use Rattle.yasna_notation.specs.Making.{in_application};
@@ -17,6 +17,7 @@ use yasna::{ASN1Result, BERMode, BERReader, DERWriter, PrependBuffer, Tag};
 use yasna_notation::{
     Application, CanonicalNotation, Implicit, Message, Notation, Represents, read_as,
 };
+use yasna_notation_validity::Checked;
 
 type Notated = Implicit<Application<2>, ()>;
 
@@ -75,4 +76,10 @@ impl Message for UnbindRequest {
 
 impl CanonicalNotation for UnbindRequest {
     ghost written = { λ _. represented_written ⟦<UnbindRequest as Represents<()>>⟧.value_of (under_application 2 (omega arith) (null_written refl)) };
+}
+
+impl Checked for UnbindRequest {
+    fn accepts(_value: &UnbindRequest) -> bool {
+        Notated::accepts(&())
+    }
 }

@@ -18,8 +18,8 @@ const CERTIFICATE: &str =
 // A key of v1.
 const KEY: &str = "300c020100300506032b65700400";
 
-// Writes a message that can be written. Any such message may be encoded: that is proved here.
-fn is_written<T: Message + Checked>(alloc: Global, message: T) -> ASN1Result<bool> {
+/// Writes a message that can be written. Any such message may be encoded: that is proved here.
+pub fn is_written<T: Message + Checked>(alloc: Global, message: T) -> ASN1Result<bool> {
     if !message.is_valid() {
         return Ok(false);
     }

@@ -4,6 +4,7 @@
 //! |---|---|
 //! | `certificates` | certificates and revocation lists of `x509` |
 //! | `changed` | messages that were changed after they were read |
+//! | `changed_ldap` | messages of `ldap` that were changed after they were read |
 //! | `checks` | no test: it holds what is checked of every type |
 //! | `keys` | private keys, and signed and enveloped contents, of `pkcs8` and `cms` |
 //! | `kinds` | no test: it holds what a row is, and by what its kind is checked |
@@ -21,6 +22,8 @@
 mod certificates;
 #[cfg(test)]
 mod changed;
+#[cfg(test)]
+mod changed_ldap;
 #[cfg(test)]
 mod checks;
 #[cfg(test)]

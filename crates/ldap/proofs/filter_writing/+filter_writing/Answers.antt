@@ -97,7 +97,7 @@ write_filters-returns t c = c.write_group.ensures
 
 pub write_filters-write_group-requires-clause-takes : goal.write_filters-write_group-requires-clause-takes
 write_filters-write_group-requires-clause-takes t c =
-    each_less _ the_filter.can c.args.filters.now c.requires (λ v can less f p w is begins failed. (
+    each_less depth_of _ the_filter.can c.args.filters.now c.requires (λ v can less f p w is begins failed. (
       omega (arith, less, c.decreases, ap depth_of is),
       (subst (λ z. the_filter.can z) (sym is) can, (begins, failed)),
     ))
