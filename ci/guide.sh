@@ -1,6 +1,6 @@
 #!/bin/sh
 # What the documents show. Each block of Rust or of antt in them, and in the comments on public items, is in one of the proved crates
-# tests_yasna, examples_proved, x509, ldap and yasna_notation_types, line for line, but for its indentation as a whole. A module that a
+# tests_yasna, tests_notation, examples_proved, x509 and ldap, line for line, but for its indentation as a whole. A module that a
 # document shows is the document's blocks, one after the other, and nothing else: so a reader who copies them has all that is needed. Each
 # block of GUIDE.md and NOTATION.md is a module. A page CALLING.md also quotes contracts and definitions, which are in the sources, line for line. Each mutant that
 # PROMISES.md names is an edit that the gate or ci/mutants.sh tries.
@@ -152,7 +152,7 @@ guide=crates/tests_yasna/src/examples
 examples=crates/examples_proved/src
 types=crates/x509/src
 filters=crates/ldap/src
-more=crates/yasna_notation_types/src
+more=crates/tests_notation/src/examples
 files=$(find "$guide" "$examples" "$types" "$filters" "$more" crates/examples_proved/proofs -name '*.rt' -o -name '*.antt')
 for page in README.md docs/GUIDE.md docs/NOTATION.md docs/IMPLEMENTING.md \
     crates/yasna/src/lib.rt crates/yasna/src/shapes.rt \

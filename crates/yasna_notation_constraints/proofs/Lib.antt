@@ -1,1 +1,3 @@
 mod Saturating
+mod ReadingDefaults
+mod TestedTexts

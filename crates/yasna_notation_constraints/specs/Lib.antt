@@ -2,3 +2,5 @@ pub mod Sizes
 pub mod Numbers
 pub mod Combined
 pub mod Defaults
+pub mod TestedDefaults
+pub mod OrDefault

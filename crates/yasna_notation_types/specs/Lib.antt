@@ -10,4 +10,3 @@ pub mod Elements
 pub mod Rest
 pub mod Beginning
 pub mod Others
-pub mod Profile

@@ -12,66 +12,39 @@
 //! | `set_part`, `set_choices` | types that may be a part of a SET |
 //! | `set_parts`, `set_defaults` | SET of parts |
 //! | `checked` | whether a value of one of these types can be written |
+//! | `statuses` | two enums, as examples of `named` |
 //!
-//! Each of these has an example, which is a type of a small module:
-//!
-//! | Module | Example of |
-//! |---|---|
-//! | `statuses`, `reply` | `named` |
-//! | `key_info` | `plain_bits` |
-//! | `usage` | `least_bits` |
-//! | `shape` | `open_choice` |
-//! | `header` | `named_bits`, `rest` |
-//! | `profile` | `others`, `possible_default` |
-//! | `person`, `entry` | `set_parts` |
+//! `tests_notation` has a type of a small module as an example of each.
 #![tactic(auto)]
 
 mod beginning;
 mod checked;
 mod elements;
-mod entry;
-mod header;
-mod key_info;
 mod least_bits;
 mod named;
 mod named_bits;
 mod open_choice;
 mod others;
-mod person;
 mod plain_bits;
 mod possible_default;
-mod profile;
-mod reply;
 mod rest;
 mod set_choices;
 mod set_defaults;
 mod set_part;
 mod set_parts;
-mod shape;
 mod statuses;
-#[cfg(test)]
-mod tests;
-mod usage;
 
 pub use beginning::Beginning;
 pub use elements::{ElementParts, Elements};
-pub use entry::Entry;
-pub use header::Header;
-pub use key_info::KeyInfo;
 pub use least_bits::LeastBits;
 pub use named::{Named, Numbered};
 pub use named_bits::NamedBits;
 pub use open_choice::OpenChoice;
 pub use others::{Others, Possible};
-pub use person::Person;
 pub use plain_bits::PlainBits;
 pub use possible_default::PossibleDefault;
-pub use profile::Profile;
-pub use reply::Reply;
 pub use rest::Rest;
 pub use set_choices::SetAlternatives;
 pub use set_part::SetPart;
 pub use set_parts::{Set, SetParts};
-pub use shape::Shape;
 pub use statuses::{ResponseStatus, ResultCode};
-pub use usage::Usage;

@@ -5,7 +5,7 @@ ghost use Rattle.yasna_notation_types.specs.Statuses.{response_number, is_status
 use crate::named::Numbered;
 
 /// `ENUMERATED { successful (0), malformedRequest (1), tryLater (3), sigRequired (5) }`
-#[derive(Clone, Copy, Debug, PartialEq, Eq)]
+#[derive(Clone, Copy)]
 pub enum ResponseStatus {
     Successful,
     MalformedRequest,
@@ -43,7 +43,7 @@ impl Numbered for ResponseStatus {
 }
 
 /// `ENUMERATED { success (0), busy (51), ... }`
-#[derive(Clone, Copy, Debug, PartialEq, Eq)]
+#[derive(Clone, Copy)]
 pub enum ResultCode {
     Success,
     Busy,

@@ -20,8 +20,6 @@ mod composed;
 mod defined;
 mod simple;
 mod strings;
-#[cfg(test)]
-mod tests;
 
 pub use alternatives::CheckedAlternatives;
 pub use checked::{Checked, IsValid};

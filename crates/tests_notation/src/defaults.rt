@@ -1,0 +1,274 @@
+//! What the examples of defaults of strings, object identifiers and structs read and write.
+//!
+//! Rows of openssl are parameters of signatures that `openssl req -x509 -sigopt rsa_padding_mode:pss` made. The others are written by hand from
+//! X.690.
+
+use crate::checks::{Claim, Kind, Row, bytes_of, finds_none, first_failing, holds, holds_in_ber};
+use crate::examples::label::Label;
+use crate::examples::pss_params::PssParams;
+use std::alloc::Global;
+use yasna::{ASN1Result, decode_ber, decode_der, encode_der};
+use yasna_notation::Encoded;
+use yasna_notation_validity::IsValid;
+
+/// The type of a row.
+#[derive(Clone, Copy)]
+enum Example {
+    Label,
+    PssParams,
+}
+
+// What BER reads and can be written, written in DER.
+fn params_in_der(alloc: Global, bytes: &[u8]) -> ASN1Result<Option<Vec<u8>>> {
+    let params: Encoded<PssParams> = decode_ber(alloc, bytes)?;
+    if !params.value.is_valid() {
+        return Ok(None);
+    }
+    let encoding = encode_der(alloc, &params)?;
+    Ok(Some(encoding))
+}
+
+// Whether DER rejects these octets, and what BER reads of them has this DER encoding.
+fn become_params(alloc: Global, bytes: &[u8], encoding: &str) -> bool {
+    if decode_der::<Encoded<PssParams>>(alloc, bytes).is_ok() {
+        return false;
+    }
+    match (params_in_der(alloc, bytes), bytes_of(alloc, encoding)) {
+        (Ok(Some(found)), Some(encoding)) => found.as_slice() == encoding.as_slice(),
+        _ => false,
+    }
+}
+
+// What the checker finds of the type's notation takes a function of its own.
+fn holds_of_params(alloc: Global, bytes: &[u8], claim: Claim) -> bool {
+    match claim {
+        Claim::Becomes(encoding) => become_params(alloc, bytes, encoding),
+        _ => holds::<Encoded<PssParams>>(alloc, bytes, claim),
+    }
+}
+
+// As `holds_of_params`.
+fn holds_of_label(alloc: Global, bytes: &[u8], claim: Claim) -> bool {
+    holds_in_ber::<Encoded<Label>>(alloc, bytes, claim)
+}
+
+impl Kind for Example {
+    fn is_so(self, alloc: Global, bytes: &[u8], claim: Claim) -> bool {
+        match self {
+            Example::Label => holds_of_label(alloc, bytes, claim),
+            Example::PssParams => holds_of_params(alloc, bytes, claim),
+        }
+    }
+}
+
+static ROWS: [Row<Example>; 34] = [
+    (
+        Example::Label,
+        Claim::IsEncoding,
+        "a label of defaults",
+        "3000",
+    ),
+    (
+        Example::Label,
+        Claim::IsEncoding,
+        "another kind",
+        "30050603883702",
+    ),
+    (
+        Example::Label,
+        Claim::Becomes("3000"),
+        "the kind 2.999.1",
+        "30050603883701",
+    ),
+    (
+        Example::Label,
+        Claim::IsEncoding,
+        "a kind below 2.999.1",
+        "3006060488370101",
+    ),
+    (
+        Example::Label,
+        Claim::IsEncoding,
+        "the kind above 2.999.1",
+        "300406028837",
+    ),
+    (
+        Example::Label,
+        Claim::IsEncoding,
+        "another text",
+        "30058003626167",
+    ),
+    (
+        Example::Label,
+        Claim::Becomes("3000"),
+        "the text box",
+        "30058003626f78",
+    ),
+    (
+        Example::Label,
+        Claim::Becomes("3000"),
+        "the text box in two segments",
+        "3009a00704016204026f78",
+    ),
+    (
+        Example::Label,
+        Claim::IsEncoding,
+        "a text that begins with box",
+        "30078005626f786573",
+    ),
+    (
+        Example::Label,
+        Claim::IsRejected,
+        "an empty text",
+        "30028000",
+    ),
+    (
+        Example::Label,
+        Claim::IsRejected,
+        "a text of nine characters",
+        "300b8009616161616161616161",
+    ),
+    (
+        Example::Label,
+        Claim::IsEncoding,
+        "another key",
+        "3003040107",
+    ),
+    (
+        Example::Label,
+        Claim::Becomes("3000"),
+        "the key 0102",
+        "300404020102",
+    ),
+    (
+        Example::Label,
+        Claim::IsEncoding,
+        "an empty key",
+        "30020400",
+    ),
+    (
+        Example::Label,
+        Claim::IsEncoding,
+        "another side",
+        "3005a103130153",
+    ),
+    (
+        Example::Label,
+        Claim::Becomes("3000"),
+        "the side N",
+        "3005a10313014e",
+    ),
+    (
+        Example::Label,
+        Claim::IsRejected,
+        "a side with an asterisk",
+        "3005a10313012a",
+    ),
+    (
+        Example::Label,
+        Claim::IsEncoding,
+        "four other parts",
+        "301206038837028003626167040107a103130153",
+    ),
+    (
+        Example::Label,
+        Claim::Becomes("3003040107"),
+        "a default before another key",
+        "30080603883701040107",
+    ),
+    (
+        Example::Label,
+        Claim::IsRejected,
+        "a key before a text",
+        "30080401078003626167",
+    ),
+    (
+        Example::Label,
+        Claim::IsRejected,
+        "a key after the side",
+        "3008a103130153040107",
+    ),
+    (
+        Example::PssParams,
+        Claim::IsEncoding,
+        "SHA-1 and 20 octets of salt, of openssl",
+        "3000",
+    ),
+    (
+        Example::PssParams,
+        Claim::IsEncoding,
+        "SHA-1 and 32 octets of salt, of openssl",
+        "3005a203020120",
+    ),
+    (
+        Example::PssParams,
+        Claim::IsEncoding,
+        "SHA-256 and 32 octets of salt, of openssl",
+        "3034a00f300d06096086480165030402010500a11c301a06092a864886f70d010108300d06096086480165030402010500a203020120",
+    ),
+    (
+        Example::PssParams,
+        Claim::IsEncoding,
+        "SHA-256 and 20 octets of salt, of openssl",
+        "302fa00f300d06096086480165030402010500a11c301a06092a864886f70d010108300d06096086480165030402010500",
+    ),
+    (
+        Example::PssParams,
+        Claim::IsEncoding,
+        "SHA-1 without parameters",
+        "300ba009300706052b0e03021a",
+    ),
+    (
+        Example::PssParams,
+        Claim::IsEncoding,
+        "SHA-1 with an OCTET STRING as parameters",
+        "300da00b300906052b0e03021a0400",
+    ),
+    (
+        Example::PssParams,
+        Claim::Becomes("3000"),
+        "SHA-1",
+        "300da00b300906052b0e03021a0500",
+    ),
+    (
+        Example::PssParams,
+        Claim::Becomes("3000"),
+        "MGF1 with SHA-1",
+        "301aa118301606092a864886f70d010108300906052b0e03021a0500",
+    ),
+    (
+        Example::PssParams,
+        Claim::Becomes("3000"),
+        "20 octets of salt",
+        "3005a203020114",
+    ),
+    (
+        Example::PssParams,
+        Claim::Becomes("3000"),
+        "the trailer field 1",
+        "3005a303020101",
+    ),
+    (
+        Example::PssParams,
+        Claim::Becomes("3000"),
+        "each default",
+        "3031a00b300906052b0e03021a0500a118301606092a864886f70d010108300906052b0e03021a0500a203020114a303020101",
+    ),
+    (
+        Example::PssParams,
+        Claim::IsRejected,
+        "an algorithm without an element of its own",
+        "3009a00706052b0e03021a",
+    ),
+    (
+        Example::PssParams,
+        Claim::IsRejected,
+        "a salt before an algorithm",
+        "3010a203020120a009300706052b0e03021a",
+    ),
+];
+
+#[test]
+fn examples_read_and_write(rt: HostRuntime) {
+    finds_none(&rt, first_failing(rt.alloc(), &ROWS));
+}
