@@ -55,7 +55,7 @@ def first_difference(wrote, wanted):
 
 def run_program(crate):
     words = part(crate, "args").decode().splitlines()
-    data = [f"--data={it.name}={it.resolve()}" for it in sorted(Path(f"crates/{crate}/data").glob("*"))]
+    data = [word for it in sorted(Path(f"crates/{crate}/data").glob("*")) for word in ("--data", f"{it.name}={it.resolve()}")]
     ran = tried(crate, *data, "--", *words, given=part(crate, "stdin"))
     wanted, status = part(crate, "stdout"), int(part(crate, "status", b"0"))
     if ran.returncode != status:
