@@ -29,18 +29,23 @@ struct Listed {
 }
 
 // What is shown, with the names of the types of modules.
-fn named_view<'a>(options: &Options<'a>, schema: Option<&'a Schema>) -> View<'a> {
+fn named_view<'v>(options: &Options<'_>, schema: Option<&'v Schema>) -> View<'v> {
+    let view = options.view;
     View {
+        selection: view.selection,
+        layout: view.layout,
+        numbers: view.numbers,
+        width: view.width,
+        has_dump: view.has_dump,
         schema,
-        ..options.view
     }
 }
 
 // Lists an input.
-fn show<'a>(
+fn show(
     rt: &HostRuntime,
-    options: &Options<'a>,
-    schema: Option<&'a Schema>,
+    options: &Options<'_>,
+    schema: Option<&Schema>,
     input: &[u8],
 ) -> Result<Listed, WalkError> {
     let view = named_view(options, schema);
@@ -94,12 +99,7 @@ fn end(rt: &HostRuntime, options: &Options<'_>, listed: Listed) -> u8
 }
 
 // Lists an input that was read, and returns the status.
-fn list<'a>(
-    rt: &HostRuntime,
-    options: &Options<'a>,
-    schema: Option<&'a Schema>,
-    input: &[u8],
-) -> u8 {
+fn list(rt: &HostRuntime, options: &Options<'_>, schema: Option<&Schema>, input: &[u8]) -> u8 {
     match show(rt, options, schema, input) {
         Ok(listed) => end(rt, options, listed),
         Err(error) => failed_status(rt, options.input.name(), error),
@@ -107,7 +107,7 @@ fn list<'a>(
 }
 
 // Reads and lists the input that the options name, and returns the status.
-fn run_named<'a>(rt: &HostRuntime, options: &Options<'a>, schema: Option<&'a Schema>) -> u8 {
+fn run_named(rt: &HostRuntime, options: &Options<'_>, schema: Option<&Schema>) -> u8 {
     match options.input.read(rt) {
         Ok(input) => list(rt, options, schema, input.as_slice()),
         Err(status) => status,

@@ -1,6 +1,7 @@
 //! The types of the modules that name the elements.
 
 use crate::options::Options;
+use asn1_types::model::KnownType;
 use asn1_types::resolve;
 use asn1show_lines::Schema;
 use asn1show_modules::{position_of, schema_of};
@@ -21,9 +22,10 @@ fn resolved_schema<'a>(
     rt: &HostRuntime,
     files: &'a [ModuleFile<'a>],
     modules: &'a Modules<'a>,
+    known: &'a [KnownType<'a>],
     type_name: &str,
 ) -> Result<Schema, u8> {
-    let Ok(resolved) = resolve(rt.alloc(), modules.modules.as_slice(), &[]) else {
+    let Ok(resolved) = resolve(rt.alloc(), modules.modules.as_slice(), known) else {
         return Err(ProgramError::Memory.report(rt));
     };
     let definitions = resolved.definitions.as_slice();
@@ -45,7 +47,10 @@ fn schema_of_files<'a>(
 ) -> Result<Schema, u8> {
     let modules = parse_files(rt, files)?;
     match Box::new(rt.alloc(), modules) {
-        Ok(modules) => resolved_schema(rt, files, Box::leak(modules), type_name),
+        Ok(modules) => {
+            let known = Vec::new(rt.alloc());
+            resolved_schema(rt, files, Box::leak(modules), known.leak(), type_name)
+        }
         Err(_) => Err(ProgramError::Memory.report(rt)),
     }
 }
@@ -55,7 +60,8 @@ pub fn schema(rt: &HostRuntime, options: &Options<'_>) -> Result<Option<Schema>,
     let Some(type_name) = options.type_name() else {
         return Ok(None);
     };
-    let files = read_files(rt, options.modules())?;
+    let names = options.modules().unwrap_or(&[]);
+    let files = read_files(rt, names)?;
     let schema = schema_of_files(rt, files.as_slice(), type_name)?;
     Ok(Some(schema))
 }

@@ -21,9 +21,9 @@ pub struct Options<'a> {
 }
 
 impl<'a> Options<'a> {
-    /// The files of modules that name the elements.
-    pub fn modules(&self) -> &[&'a str] {
-        self.matches.get_strs("module").unwrap_or(&[])
+    /// The files of modules that name the elements, if there are any.
+    pub fn modules(&self) -> Option<&[&'a str]> {
+        self.matches.get_strs("module")
     }
 
     /// The type of the input, if modules name its elements.

@@ -2,6 +2,7 @@
 
 use asn1_syntax::parse;
 use asn1_syntax::tree::Module;
+use asn1_types::model::KnownType;
 use asn1_types::resolve;
 use asn1show_modules::{position_of, schema_of};
 use asn1show_schema::{Fields, Label, Schema};
@@ -160,8 +161,13 @@ fn described(alloc: Global, schema: &Schema, elements: &[Element]) -> String {
 }
 
 // Whether the elements of a row are as it says in its modules.
-fn is_described<'a>(alloc: Global, modules: &'a [Module<'a>], row: &Row) -> bool {
-    let Ok(resolved) = resolve(alloc, modules, &[]) else {
+fn is_described<'a>(
+    alloc: Global,
+    modules: &'a [Module<'a>],
+    known: &'a [KnownType<'a>],
+    row: &Row,
+) -> bool {
+    let Ok(resolved) = resolve(alloc, modules, known) else {
         return false;
     };
     let definitions = resolved.definitions.as_slice();
@@ -175,10 +181,14 @@ fn is_described<'a>(alloc: Global, modules: &'a [Module<'a>], row: &Row) -> bool
 }
 
 // The expected words of the first row that is otherwise. Modules are never freed, since they are lent for as long as they are.
-fn first_other(alloc: Global, rows: &'static [Row]) -> Option<&'static str> {
+fn first_other(
+    alloc: Global,
+    rows: &'static [Row],
+    known: &'static [KnownType<'static>],
+) -> Option<&'static str> {
     for row in rows {
         let is_so = match parse(alloc, row.0) {
-            Ok(modules) => is_described(alloc, modules.leak(), row),
+            Ok(modules) => is_described(alloc, modules.leak(), known, row),
             Err(_) => false,
         };
         if !is_so {
@@ -190,7 +200,7 @@ fn first_other(alloc: Global, rows: &'static [Row]) -> Option<&'static str> {
 
 #[test]
 fn elements_have_the_names_of_their_parts(rt: HostRuntime) {
-    assert!(rt; first_other(rt.alloc(), &ROWS).is_none());
+    assert!(rt; first_other(rt.alloc(), &ROWS, &[]).is_none());
 }
 
 #[test]
