@@ -130,7 +130,7 @@ met_around a qs k m t s d r end old mid new is opens inside here set other v b x
   where
     go : (w : Branch (Tree k)) → HasBranch (HasTree k m) (tree_parts k) (suc k) m w b → branch_class w ≡ Other → branch_tag w ≡ t →
         Meets old new (IsSureBranch a (tree_parts k) (IsSure a k) w)
-    go (primitive u c) y f g = let h = (header_of m t u Constructed Primitive s d c b r end opens y.1 e).bit in absurd (cc)
+    go (primitive u c) y f g = let h = (header_of m t u Constructed Primitive s d y.1.contents b r end opens y.1.element e).bit in absurd (cc)
     go (set_of vs) y f g =
         let h = header_of m t set_tag Constructed Constructed s d y.contents b r end opens y.element e in
         let p = y.inner.elements in

@@ -19,6 +19,8 @@ use Rattle.yasna_base.proofs.Digits.{bytes_append}
 use Rattle.yasna_base.proofs.Octets.{octets_written}
 use Rattle.yasna_base.proofs.Order.{in_order_map, all_permuted}
 use Rattle.yasna_base.proofs.SetOfWriting.{in_order_permuted, octets_in_order, octets_ordered}
+use Rattle.asn1_contents.specs.ContentsType.{type_with}
+use Rattle.asn1_contents.proofs.Contents.{contents_again, contents_bytes}
 use Rattle.asn1der_convert.specs.SetOrder.{keyed_parts, IsOrderKnown}
 use Rattle.asn1der_convert.specs.Tags.{IsStringTag}
 use Rattle.asn1der_convert.specs.Tree.{Branch, boolean, bits, string, primitive, set_of, constructed, Tree, branch_tag, tree_tag, HasBranch, HasTree, branch_encoding, der_encoding, SameBranch, SameTree}
@@ -120,26 +122,45 @@ module _ {A : Type 0} (R : BERMode → A → List ℕ → Type 0) (E : A → A �
       CanonicalBranch n (string t v)
   string_canonical n t v b level x short =
       let w = octets_written t ((string_small t x.0).1) in
-      let can = (w.any n v b x.1).0 in
+      let y = x.1 in
+      let can = contents_bytes (type_with t) Ber y.octets v (w.any n y.octets b y.string).0 y.meaning in
       record {
         tree = string t v;
-        read = λ o h. (x.0, w.has.holds Der o n v h can level short);
+        read = λ o h. (
+          x.0,
+          record {
+            octets = v;
+            string = w.has.holds Der o n v h can level short;
+            meaning = contents_again (type_with t) Ber o y.octets v y.meaning;
+          },
+        );
         same = (refl, refl);
         encoding = refl;
         tag = refl;
         in_bytes = w.has.in_bytes Der v can short;
       }
 
-  primitive_canonical : (n : ℕ) (t : Tag) (c b : List ℕ) → HasBranch (R Ber) (keyed_parts mark f) n Ber (primitive t c) b → length (branch_encoding f (primitive t c)) < 2 ^ 64 →
-      CanonicalBranch n (primitive t c)
-  primitive_canonical n t c b x short = record {
-    tree = primitive t c;
-    read = λ o h. (x.0, canonical_element_is Der o t Primitive c h x.1.in_range x.1.in_bytes short);
-    same = (refl, refl);
-    encoding = refl;
-    tag = refl;
-    in_bytes = canonical_element_bytes Der t Primitive c x.1.in_bytes short;
-  }
+  primitive_canonical : (n : ℕ) (t : Tag) (c b : List ℕ) → 1 ≤ n → HasBranch (R Ber) (keyed_parts mark f) n Ber (primitive t c) b →
+      length (branch_encoding f (primitive t c)) < 2 ^ 64 → CanonicalBranch n (primitive t c)
+  primitive_canonical n t c b level x short =
+      let y = x.1 in
+      let can = contents_bytes (type_with t) Ber y.contents c y.element.in_bytes y.meaning in
+      record {
+        tree = primitive t c;
+        read = λ o h. (
+          x.0,
+          record {
+            level = level;
+            contents = c;
+            element = canonical_element_is Der o t Primitive c h y.element.in_range can short;
+            meaning = contents_again (type_with t) Ber o y.contents c y.meaning;
+          },
+        );
+        same = (refl, refl);
+        encoding = refl;
+        tag = refl;
+        in_bytes = canonical_element_bytes Der t Primitive c can short;
+      }
 
   constructed_canonical : (n : ℕ) (t : Tag) (vs : List A) (b : List ℕ) → (x : HasBranch (R Ber) (keyed_parts mark f) n Ber (constructed t vs) b) →
       AllByRecursion HasCanonical vs → length (branch_encoding f (constructed t vs)) < 2 ^ 64 → CanonicalBranch n (constructed t vs)
@@ -203,7 +224,7 @@ module _ {A : Type 0} (R : BERMode → A → List ℕ → Type 0) (E : A → A �
   branch_canonical g n level (boolean v) b x short = boolean_canonical n v level short
   branch_canonical g n level (bits v) b x short = bits_canonical n v level (bits_can n Ber bits_tag v b x) short
   branch_canonical g n level (string t v) b x short = string_canonical n t v b level x short
-  branch_canonical g n level (primitive t c) b x short = primitive_canonical n t c b x short
+  branch_canonical g n level (primitive t c) b x short = primitive_canonical n t c b level x short
   branch_canonical g n level (set_of vs) b x short =
       set_of_canonical n vs b x (all_canonical g vs x.inner.elements.pieces x.inner.elements.each) short
   branch_canonical g n level (constructed t vs) b x short =

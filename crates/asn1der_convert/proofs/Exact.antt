@@ -17,6 +17,9 @@ use Rattle.yasna_base.proofs.Identifier.{begins_once, begins_with, not_end}
 use Rattle.yasna_base.proofs.Octets.{octets_once}
 use Rattle.yasna_base.proofs.Pieces.{no_prefix_at_end, pieces_once, pieces_end, each_same, each_equal}
 use Rattle.yasna_base.proofs.Segmented.{segmented_begins, segmented_exact}
+use Rattle.asn1_contents.specs.Contents.{HasContents}
+use Rattle.asn1_contents.specs.ContentsType.{type_with}
+use Rattle.asn1_contents.proofs.Contents.{contents_one}
 use Rattle.asn1der_convert.specs.ContentsClass.{IsOfClass}
 use Rattle.asn1der_convert.specs.SetOrder.{IsOrderKnown}
 use Rattle.asn1der_convert.specs.Tags.{IsStringTag, IsOtherTag}
@@ -100,8 +103,8 @@ module _ {A : Type 0} (R : A → List ℕ → Type 0) (parts : List A → List S
   pub branch_begins : (v : Branch A) (b : List ℕ) → HasBranch R parts n m v b → BeginsWithTag (branch_tag v) b
   branch_begins (boolean v) b x = element_begins m boolean_tag Primitive x.contents b x.element
   branch_begins (bits v) b x = segmented_begins bits_segmentation n m bits_tag v b x
-  branch_begins (string t v) b x = segmented_begins octets_segmentation n m t v b x.1
-  branch_begins (primitive t c) b x = element_begins m t Primitive c b x.1
+  branch_begins (string t v) b x = segmented_begins octets_segmentation n m t x.1.octets b x.1.string
+  branch_begins (primitive t c) b x = element_begins m t Primitive x.1.contents b x.1.element
   branch_begins (set_of vs) b x = element_begins m set_tag Constructed x.contents b x.element
   branch_begins (constructed t vs) b x = element_begins m t Constructed x.1.contents b x.1.element
 
@@ -135,6 +138,12 @@ module _ {A : Type 0} (R : A → List ℕ → Type 0) (parts : List A → List S
         let i = element_exact m m t u Constructed Constructed c d b e r s x y (λ z w j k g. members_end vs ws c d z w p q j k g) f in
         record { tags = i.tag; trees = members_exact vs ws d (subst (λ z. Pieces R vs z) i.contents p) q; bytes = i.bytes }
 
+    -- equal contents of elements with equal tags are equal in DER
+    same_contents : (t u : Tag) (v w c d : List ℕ) → t ≡ u → c ≡ d → HasContents (type_with t) m v c → HasContents (type_with u) m w d → v ≡ w
+    same_contents t u v w c d f g x y =
+        let one = subst (λ z. HasContents (type_with z) m v c) f x in
+        contents_one (type_with u) m d v w (subst (λ z. HasContents (type_with u) m v z) g one) y
+
     by_kind : (v w : Branch A) (b c r s : List ℕ) → HasBranch R parts n m v b → HasBranch R parts n m w c → b ++ r ≡ c ++ s → branch_tag v ≡ branch_tag w →
         branch_class v ≡ branch_class w → (v ≡ w) × (b ≡ c)
     by_kind (boolean v) (boolean w) b c r s x y e t k =
@@ -144,22 +153,26 @@ module _ {A : Type 0} (R : A → List ℕ → Type 0) (parts : List A → List S
     by_kind (bits v) (bits w) b c r s x y e t k = let i = segmented_exact bits_once n n m bits_tag v w b c r s x y e in (ap bits i.0, i.1)
     by_kind (bits v) w b c r s x y e t k = absurd (cc)
     by_kind (string t v) (string u w) b c r s x y e f k =
-        let i = segmented_exact octets_once n n m u v w b c r s (subst (λ z. IsOctets z m n v b) f x.1) y.1 e in
-        (ap₂ (λ z a. string z a) f i.0, i.1)
+        let p = x.1 in
+        let q = y.1 in
+        let i = segmented_exact octets_once n n m u p.octets q.octets b c r s (subst (λ z. IsOctets z m n p.octets b) f p.string) q.string e in
+        (ap₂ (λ z a. string z a) f (same_contents t u v w p.octets q.octets f i.0 p.meaning q.meaning), i.1)
     by_kind (string t v) w b c r s x y e f k = absurd (cc)
     by_kind (primitive t c) (primitive u d) b a r s x y e f k =
-        let i = primitive_exact m m t u Primitive c d b a r s x.1 y.1 e in
-        (ap₂ (λ z a. primitive z a) i.tag i.contents, i.bytes)
+        let p = x.1 in
+        let q = y.1 in
+        let i = primitive_exact m m t u Primitive p.contents q.contents b a r s p.element q.element e in
+        (ap₂ (λ z a. primitive z a) i.tag (same_contents t u c d p.contents q.contents i.tag i.contents p.meaning q.meaning), i.bytes)
     by_kind (primitive t c) (set_of ws) b a r s x y e f k =
-        let i = (primitive_exact m m t set_tag Constructed c y.contents b a r s x.1 y.element e).bit in absurd (cc)
+        let i = (primitive_exact m m t set_tag Constructed x.1.contents y.contents b a r s x.1.element y.element e).bit in absurd (cc)
     by_kind (primitive t c) (constructed u ws) b a r s x y e f k =
-        let i = (primitive_exact m m t u Constructed c y.1.contents b a r s x.1 y.1.element e).bit in absurd (cc)
+        let i = (primitive_exact m m t u Constructed x.1.contents y.1.contents b a r s x.1.element y.1.element e).bit in absurd (cc)
     by_kind (primitive t c) w b a r s x y e f k = absurd (cc)
     by_kind (set_of vs) (set_of ws) b c r s x y e f k =
         let i = around_exact set_tag set_tag vs ws x.contents y.contents b c r s x.element y.element x.inner.elements y.inner.elements e in
         (ap set_of i.trees, i.bytes)
     by_kind (set_of vs) (primitive u d) b c r s x y e f k =
-        let i = (primitive_exact m m u set_tag Constructed d x.contents c b s r y.1 x.element (sym e)).bit in absurd (cc)
+        let i = (primitive_exact m m u set_tag Constructed y.1.contents x.contents c b s r y.1.element x.element (sym e)).bit in absurd (cc)
     by_kind (set_of vs) (constructed u ws) b c r s x y e f k =
         let i = around_exact set_tag u vs ws x.contents y.1.contents b c r s x.element y.1.element x.inner.elements y.1.inner.elements e in
         absurd (y.1.inner.other (sym f) (subst (λ us. IsOrderKnown (parts us)) i.trees x.inner.known))
@@ -168,7 +181,7 @@ module _ {A : Type 0} (R : A → List ℕ → Type 0) (parts : List A → List S
         let i = around_exact t u vs ws x.1.contents y.1.contents b c r s x.1.element y.1.element x.1.inner.elements y.1.inner.elements e in
         (ap₂ (λ z us. constructed z us) i.tags i.trees, i.bytes)
     by_kind (constructed t vs) (primitive u d) b c r s x y e f k =
-        let i = (primitive_exact m m u t Constructed d x.1.contents c b s r y.1 x.1.element (sym e)).bit in absurd (cc)
+        let i = (primitive_exact m m u t Constructed y.1.contents x.1.contents c b s r y.1.element x.1.element (sym e)).bit in absurd (cc)
     by_kind (constructed t vs) (set_of ws) b c r s x y e f k =
         let i = around_exact t set_tag vs ws x.1.contents y.contents b c r s x.1.element y.element x.1.inner.elements y.inner.elements e in
         absurd (x.1.inner.other f (subst (λ us. IsOrderKnown (parts us)) (sym i.trees) y.inner.known))
@@ -199,7 +212,7 @@ module _ {A : Type 0} (R : A → List ℕ → Type 0) (parts : List A → List S
   branch_small (boolean v) b x = omega arith
   branch_small (bits v) b x = omega arith
   branch_small (string t v) b x = (string_small t x.0).1
-  branch_small (primitive t c) b x = x.1.in_range
+  branch_small (primitive t c) b x = x.1.element.in_range
   branch_small (set_of vs) b x = omega arith
   branch_small (constructed t vs) b x = x.1.element.in_range
 

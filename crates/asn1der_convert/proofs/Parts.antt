@@ -1,7 +1,7 @@
 -- Elements that were read, and those that were written for them.
 use Rattle.std.proofs.Common.{◌≡◌, ℕ, zero, suc, ◌+◌, ◌-◌, ◌*◌, ◌%◌, ◌^◌, ◌<◌, ◌≤◌, ◌↔◌, IsTrue, Bool, List, [], ◌∷◌, ◌++◌, length, map, Ok, Err, refl}
 use Rattle.std.proofs.Common.{sym, ap, ap₂, ◌∙◌, subst, append-nil, append_assoc, length-append, arith}
-use Rattle.std.specs.Prelude.{Result, IfOk}
+use Rattle.std.specs.Prelude.{Result, IfOk, IfErr}
 use Rattle.std.specs.List.{AllByRecursion, concat, flat_map}
 use Rattle.yasna_base.specs.Bits.{BitString, IsBits, bits_tag, padded, bits_contents, bits_segmentation}
 use Rattle.yasna_base.specs.Boolean.{IsBoolean, boolean_tag, boolean_byte}
@@ -21,6 +21,8 @@ use Rattle.yasna_base.proofs.Pieces.{no_pieces, one_piece, pieces_append}
 use Rattle.yasna_base.proofs.Segmented.{segmented_begins, segmented_level}
 use Rattle.yasna_bytes.specs.Prefix.{Takes}
 use Rattle.yasna_bytes.proofs.Ending.{closed}
+use Rattle.asn1_contents.specs.Contents.{HasContents}
+use Rattle.asn1_contents.specs.ContentsType.{type_with}
 use Rattle.asn1der_convert.specs.Parts.{part_tags, part_bytes, set_parts, IsPartOf, ArePartsOf, TakesPart, TakesPartsTo, ArePutInOrder, sorted, as_they_were, IsPartAround}
 use Rattle.asn1der_convert.specs.SetOrder.{IsOrderKnown}
 use Rattle.asn1der_convert.specs.Tags.{IsStringTag, IsOtherPrimitive, IsOtherConstructed}
@@ -65,20 +67,29 @@ bits_part n m s r v p c x t f e =
       part = part_at n k.0 k.1 m x.prefix (bits v) x.member p t (f ∙ ap (canonical_element Der bits_tag Primitive) e);
     }
 
--- a string of octets
-pub string_part : (n : ℕ) (m : BERMode) (t : Tag) (s r v : List ℕ) (p : DerElement) → IsStringTag t → Takes (IsOctets t m n) s v r →
-    p.tag ≡ t → p.bytes.items ≡ canonical_element Der t Primitive v → TakesPart n m s p r
-string_part n m t s r v p h x e f =
-    let k = one_less n (segmented_level octets_segmentation n m t v x.prefix x.member) in
-    record { prefix = x.prefix; joined = x.joined; part = part_at n k.0 k.1 m x.prefix (string t v) (h, x.member) p e f }
+-- a string of octets o, whose contents in DER are d
+pub string_part : (n : ℕ) (m : BERMode) (t : Tag) (s r o d : List ℕ) (p : DerElement) → IsStringTag t → Takes (IsOctets t m n) s o r →
+    HasContents (type_with t) m d o → p.tag ≡ t → p.bytes.items ≡ canonical_element Der t Primitive d → TakesPart n m s p r
+string_part n m t s r o d p h x g e f =
+    let k = one_less n (segmented_level octets_segmentation n m t o x.prefix x.member) in
+    record {
+      prefix = x.prefix;
+      joined = x.joined;
+      part = part_at n k.0 k.1 m x.prefix (string t d) (h, record { octets = o; string = x.member; meaning = g }) p e f;
+    }
 
--- any other primitive element
-pub primitive_part : (n : ℕ) (m : BERMode) (t : Tag) (s r c : List ℕ) (p : DerElement) → 1 ≤ n → IsOtherPrimitive t → OpensAt m t Primitive s c (definite_end r) →
-    p.tag ≡ t → p.bytes.items ≡ canonical_element Der t Primitive c → TakesPart n m s p r
-primitive_part n m t s r c p level h x e f =
+-- any other primitive element with the contents c, which are d in DER
+pub primitive_part : (n : ℕ) (m : BERMode) (t : Tag) (s r c d : List ℕ) (p : DerElement) → 1 ≤ n → IsOtherPrimitive t →
+    OpensAt m t Primitive s c (definite_end r) → HasContents (type_with t) m d c → p.tag ≡ t → p.bytes.items ≡ canonical_element Der t Primitive d →
+    TakesPart n m s p r
+primitive_part n m t s r c d p level h x g e f =
     let k = one_less n level in
     let y = closed m t Primitive s c (definite_end r) x c [] r (sym (append-nil c)) (refl, refl) in
-    record { prefix = y.bytes; joined = y.joined; part = part_at n k.0 k.1 m y.bytes (primitive t c) (h, y.element) p e f }
+    record {
+      prefix = y.bytes;
+      joined = y.joined;
+      part = part_at n k.0 k.1 m y.bytes (primitive t d) (h, record { level = level; contents = c; element = y.element; meaning = g }) p e f;
+    }
 
 -- no elements
 unfoldable pub no_parts : (n : ℕ) (m : BERMode) → ArePartsOf n m [] []
@@ -236,8 +247,8 @@ constructed_taken n k m m' t s d d' r end end' ps p f g level less h i other ope
 branch_some : {A : Type 0} (R : A → List ℕ → Type 0) (parts : List A → List SetPart) (n : ℕ) (m : BERMode) (v : Branch A) (b : List ℕ) → HasBranch R parts n m v b → 1 ≤ length b
 branch_some R parts n m (boolean v) b x = begins_some boolean_tag b (element_begins m boolean_tag Primitive x.contents b x.element)
 branch_some R parts n m (bits v) b x = begins_some bits_tag b (segmented_begins bits_segmentation n m bits_tag v b x)
-branch_some R parts n m (string t v) b x = begins_some t b (segmented_begins octets_segmentation n m t v b x.1)
-branch_some R parts n m (primitive t c) b x = begins_some t b (element_begins m t Primitive c b x.1)
+branch_some R parts n m (string t v) b x = begins_some t b (segmented_begins octets_segmentation n m t x.1.octets b x.1.string)
+branch_some R parts n m (primitive t c) b x = begins_some t b (element_begins m t Primitive x.1.contents b x.1.element)
 branch_some R parts n m (set_of vs) b x = begins_some set_tag b (element_begins m set_tag Constructed x.contents b x.element)
 branch_some R parts n m (constructed t vs) b x = begins_some t b (element_begins m t Constructed x.1.contents b x.1.element)
 
@@ -256,3 +267,12 @@ taken_shorter n m s p r q x e =
 pub if_ok_both : {A E : Type 0} (r : Result A E) (P Q S : A → Type 0) → ((x : A) → P x → Q x → S x) → IfOk r P → IfOk r Q → IfOk r S
 if_ok_both (Ok x) P Q S f p q = f x p q
 if_ok_both (Err e) P Q S f p q = tt
+
+-- what a fact says of a value, or of an error
+pub if_ok_so : {A E : Type 0} (r : Result A E) (P Q : A → Type 0) → ((x : A) → P x → Q x) → IfOk r P → IfOk r Q
+if_ok_so (Ok x) P Q f p = f x p
+if_ok_so (Err e) P Q f p = tt
+
+pub if_err_so : {A E : Type 0} (r : Result A E) (P Q : E → Type 0) → ((e : E) → P e → Q e) → IfErr r P → IfErr r Q
+if_err_so (Ok x) P Q f p = tt
+if_err_so (Err e) P Q f p = f e p

@@ -64,9 +64,9 @@ module _ (S : RawValue → List ℕ → Type 0) where
   branch_raw R parts f n (bits v) b x =
       segmented_raw bits_segmentation _ bits_tag v b (not_end 3 (λ e. omega arith)) (segmented_into bits_segmentation n Der bits_tag v b x)
   branch_raw R parts f n (string t v) b x =
-      segmented_raw octets_segmentation _ t v b (λ e. omega (arith, (string_small t x.0).0, ap (λ (u : Tag). u.tag_number) e))
-      (segmented_into octets_segmentation n Der t v b x.1)
-  branch_raw R parts f n (primitive t c) b x = element_raw t Primitive c b x.0.other.not_end x.1 (λ l. absurd l)
+      segmented_raw octets_segmentation _ t x.1.octets b (λ e. omega (arith, (string_small t x.0).0, ap (λ (u : Tag). u.tag_number) e))
+      (segmented_into octets_segmentation n Der t x.1.octets b x.1.string)
+  branch_raw R parts f n (primitive t c) b x = element_raw t Primitive x.1.contents b x.0.other.not_end x.1.element (λ l. absurd l)
   branch_raw R parts f n (set_of vs) b x = around_raw _ set_tag b (not_end 17 (λ e. omega arith)) x (λ c y. pieces_raw R f vs c y.elements)
   branch_raw R parts f n (constructed t vs) b x = around_raw _ t b x.0.other.not_end x.1 (λ c y. pieces_raw R f vs c y.elements)
 

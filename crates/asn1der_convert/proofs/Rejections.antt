@@ -17,10 +17,14 @@ use Rattle.yasna_base.specs.declared.tag.PCBit.TheVariants.{Primitive, Construct
 use Rattle.yasna_base.specs.declared.tag.Tag.{Tag}
 use Rattle.yasna_base.proofs.Header.{opens_begins, header_of, end_after}
 use Rattle.yasna_base.proofs.Identifier.{identifier_exact, begins_once, begins_some, begins_with}
+use Rattle.yasna_base.proofs.Octets.{octets_once}
 use Rattle.yasna_base.proofs.Pieces.{no_prefix_at_end, pieces_further}
-use Rattle.yasna_bytes.specs.Prefix.{HasPrefix}
+use Rattle.yasna_base.proofs.Segmented.{segmented_exact}
+use Rattle.yasna_bytes.specs.Prefix.{Takes, HasPrefix}
 use Rattle.yasna_bytes.specs.Header.{Holds, NotHeld, no_level, no_contents, NoEnd}
 use Rattle.yasna_bytes.proofs.Header.{element_there}
+use Rattle.asn1_contents.specs.Contents.{HasContents}
+use Rattle.asn1_contents.specs.ContentsType.{type_with}
 use Rattle.asn1der_convert.specs.Conversion.{Converts}
 use Rattle.asn1der_convert.specs.ContentsClass.{IsOfClass}
 use Rattle.asn1der_convert.specs.Parts.{NoTreeAt, NoTreesTo}
@@ -97,8 +101,41 @@ no_string n m t s is h none v b r x e =
     go y.k y.branch y.has (root_kind n m Octets t s b r y is h e) (root_tag n m t s b r y h e)
   where
     go : (k : ℕ) (w : Branch (Tree k)) → HasBranch (HasTree k m) (tree_parts k) n m w b → branch_class w ≡ Octets → branch_tag w ≡ t → ⊥
-    go k (string u c) i f g = none (c, r, record { prefix = b; joined = e; member = subst (λ z. IsOctets z m n c b) g i.1 })
+    go k (string u c) i f g = none (i.1.octets, r, record { prefix = b; joined = e; member = subst (λ z. IsOctets z m n i.1.octets b) g i.1.string })
     go k w i f g = absurd (cc)
+
+-- none whose octets are contents of its type
+pub no_string_contents : (n : ℕ) (m : BERMode) (t : Tag) (s o q : List ℕ) → IsStringTag t → BeginsWithTag t s → Takes (IsOctets t m n) s o q →
+    ((d : List ℕ) → HasContents (type_with t) m d o → ⊥) → NoTreeAt n m s
+no_string_contents n m t s o q is h taken none v b r x e =
+    let y = tree_root n m v b x in
+    go y.k y.branch y.has (root_kind n m Octets t s b r y is h e) (root_tag n m t s b r y h e)
+  where
+    go : (k : ℕ) (w : Branch (Tree k)) → HasBranch (HasTree k m) (tree_parts k) n m w b → branch_class w ≡ Octets → branch_tag w ≡ t → ⊥
+    go k (string u c) i f g =
+        let here = subst (λ z. IsOctets z m n i.1.octets b) g i.1.string in
+        let same = (segmented_exact octets_once n n m t o i.1.octets taken.prefix b q r taken.member here (sym taken.joined ∙ e)).0 in
+        none c (subst (λ z. HasContents (type_with t) m c z) (sym same) (subst (λ z. HasContents (type_with z) m c i.1.octets) g i.1.meaning))
+    go k w i f g = absurd (cc)
+
+-- no primitive element of another type whose contents are those of its type
+pub no_primitive_contents : (n : ℕ) (m : BERMode) (t : Tag) (s c a : List ℕ) → IsOtherTag t → OpensAt m t Primitive s c (definite_end a) →
+    ((d : List ℕ) → HasContents (type_with t) m d c → ⊥) → NoTreeAt n m s
+no_primitive_contents n m t s c a is opens none v b r x e =
+    let y = tree_root n m v b x in
+    let h = opens_begins m t Primitive s c (definite_end a) opens in
+    go y.k y.branch y.has (root_kind n m Other t s b r y is h e) (root_tag n m t s b r y h e)
+  where
+    go : (j : ℕ) (w : Branch (Tree j)) → HasBranch (HasTree j m) (tree_parts j) n m w b → branch_class w ≡ Other → branch_tag w ≡ t → ⊥
+    go j (primitive u d) i f g =
+        let p = i.1 in
+        let h = header_of m t u Primitive Primitive s c p.contents b r (definite_end a) opens p.element e in
+        let same : c ≡ p.contents = h.joined ∙ ap (λ z. p.contents ++ z) h.ends.0 ∙ append-nil p.contents in
+        none d (subst (λ z. HasContents (type_with t) m d z) (sym same) (subst (λ z. HasContents (type_with z) m d p.contents) g p.meaning))
+    go j (set_of vs) i f g = let h = (header_of m t set_tag Primitive Constructed s c i.contents b r (definite_end a) opens i.element e).bit in absurd (cc)
+    go j (constructed u vs) i f g =
+        let h = (header_of m t u Primitive Constructed s c i.1.contents b r (definite_end a) opens i.1.element e).bit in absurd (cc)
+    go j w i f g = absurd (cc)
 
 -- the element of another type that bytes are
 record OtherElement (m : BERMode) (t : Tag) (b : List ℕ) : Type 0 where
@@ -108,7 +145,7 @@ record OtherElement (m : BERMode) (t : Tag) (b : List ℕ) : Type 0 where
 
 other_element : {A : Type 0} (R : A → List ℕ → Type 0) (parts : List A → List SetPart) (n : ℕ) (m : BERMode) (w : Branch A) (b : List ℕ) → HasBranch R parts n m w b →
     branch_class w ≡ Other → OtherElement m (branch_tag w) b
-other_element R parts n m (primitive t c) b x k = record { bit = Primitive; contents = c; element = x.1 }
+other_element R parts n m (primitive t c) b x k = record { bit = Primitive; contents = x.1.contents; element = x.1.element }
 other_element R parts n m (set_of vs) b x k = record { bit = Constructed; contents = x.contents; element = x.element }
 other_element R parts n m (constructed t vs) b x k = record { bit = Constructed; contents = x.1.contents; element = x.1.element }
 other_element R parts n m w b x k = absurd (cc)
@@ -159,7 +196,7 @@ no_constructed n k m t s d end level is opens none v b r x e =
     go y.k y.branch y.has (omega (arith, level, y.level)) (root_kind n m Other t s b r y is (opens_begins m t Constructed s d end opens) e)
   where
     go : (j : ℕ) (w : Branch (Tree j)) → HasBranch (HasTree j m) (tree_parts j) n m w b → k ≡ j → branch_class w ≡ Other → ⊥
-    go j (primitive u c) i l f = let h = (header_of m t u Constructed Primitive s d c b r end opens i.1 e).bit in absurd (cc)
+    go j (primitive u c) i l f = let h = (header_of m t u Constructed Primitive s d i.1.contents b r end opens i.1.element e).bit in absurd (cc)
     go j (set_of vs) i l f =
         let h = header_of m t set_tag Constructed Constructed s d i.contents b r end opens i.element e in
         subst (λ z. NoTreesTo z m d end) l none vs i.contents h.after r i.inner.elements h.joined h.ends
@@ -177,7 +214,7 @@ no_primitive_type n m t s c end is always opens v b r x e =
     go y.k y.branch y.has (root_kind n m Other t s b r y is h e) (root_tag n m t s b r y h e)
   where
     go : (j : ℕ) (w : Branch (Tree j)) → HasBranch (HasTree j m) (tree_parts j) n m w b → branch_class w ≡ Other → branch_tag w ≡ t → ⊥
-    go j (primitive u d) i f g = let h = (header_of m t u Constructed Primitive s c d b r end opens i.1 e).bit in absurd (cc)
+    go j (primitive u d) i f g = let h = (header_of m t u Constructed Primitive s c i.1.contents b r end opens i.1.element e).bit in absurd (cc)
     go j (set_of vs) i f g = set_not_primitive (subst IsPrimitiveTag (sym g) always)
     go j (constructed u vs) i f g = i.0.not_primitive (subst IsPrimitiveTag (sym g) always)
     go j w i f g = absurd (cc)

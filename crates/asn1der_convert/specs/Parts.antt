@@ -9,8 +9,10 @@ use Rattle.yasna_base.specs.Pieces.{Pieces}
 use Rattle.yasna_base.specs.Set.{SetPart, parts_bytes, set_tag}
 use Rattle.yasna_base.specs.declared.mode.BERMode.{BERMode}
 use Rattle.yasna_base.specs.declared.mode.BERMode.TheVariants.{Der}
-use Rattle.yasna_base.specs.declared.tag.PCBit.TheVariants.{Constructed}
+use Rattle.yasna_base.specs.declared.tag.PCBit.TheVariants.{Primitive, Constructed}
 use Rattle.yasna_base.specs.declared.tag.Tag.{Tag}
+use Rattle.asn1_contents.specs.Contents.{HasContents}
+use Rattle.asn1_contents.specs.ContentsType.{type_with}
 use Rattle.asn1der_convert.specs.SetOrder.{keyed_part, keyed_parts, by_octets, IsOrderKnown}
 use Rattle.asn1der_convert.specs.Tree.{Tree, tree_tag, HasTree, der_encoding}
 use Rattle.asn1der_convert.specs.declared.error.ConvertError.{ConvertError}
@@ -32,6 +34,12 @@ set_parts = keyed_parts (λ (p : DerElement). p.tag) (λ (p : DerElement). p.byt
 -- the bytes of each part
 abbrev pub part_bytes : List DerElement → List (List ℕ)
 part_bytes ps = map (λ (p : DerElement). p.bytes.items) ps
+
+-- p is the primitive element in DER whose contents are those in DER of the contents c
+pub record IsElementOf (m : BERMode) (t : Tag) (c : List ℕ) (p : DerElement) : Type 0 where
+  pub contents : List ℕ
+  pub meaning : HasContents (type_with t) m contents c
+  pub bytes : p.bytes.items ≡ canonical_element Der t Primitive contents
 
 -- within n levels, b is an element, and p that element in DER with its tag
 pub record IsPartOf (n : ℕ) (m : BERMode) (b : List ℕ) (p : DerElement) : Type 0 where

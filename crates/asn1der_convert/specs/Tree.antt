@@ -1,23 +1,26 @@
--- Elements as trees, which leave out the form of lengths, the segments and the octet of TRUE (X.690, 8).
+-- Elements as trees, which leave out the form of lengths, the segments, the octet of TRUE and the text of a time (X.690, 8).
 use Rattle.std.specs.Prelude.{◌≡◌, ℕ, zero, suc, Bool, List, map}
 use Rattle.std.specs.List.{AllByRecursion, concat}
 use Rattle.yasna_base.specs.AnyOrder.{SameSetOf}
 use Rattle.yasna_base.specs.Bits.{BitString, IsBits, bits_tag, bits_contents, bits_encoding}
 use Rattle.yasna_base.specs.Boolean.{EncodesBoolean, boolean_tag, boolean_encoding}
 use Rattle.yasna_base.specs.Canonical.{canonical_element}
-use Rattle.yasna_base.specs.Element.{Element}
-use Rattle.yasna_base.specs.Octets.{IsOctets, octets_encoding}
+use Rattle.yasna_base.specs.Element.{Element, Primitively}
+use Rattle.yasna_base.specs.Octets.{octets_encoding}
 use Rattle.yasna_base.specs.Order.{octets_cmp, in_order}
 use Rattle.yasna_base.specs.Pieces.{Each, Pieces}
 use Rattle.yasna_base.specs.Set.{SetPart, set_tag, AreInSetOfOrder}
+use Rattle.yasna_base.specs.Text.{IsStringOf}
 use Rattle.yasna_base.specs.declared.mode.BERMode.{BERMode}
 use Rattle.yasna_base.specs.declared.mode.BERMode.TheVariants.{Der}
 use Rattle.yasna_base.specs.declared.tag.PCBit.TheVariants.{Primitive, Constructed}
 use Rattle.yasna_base.specs.declared.tag.Tag.{Tag}
+use Rattle.asn1_contents.specs.Contents.{HasContents}
+use Rattle.asn1_contents.specs.ContentsType.{type_with}
 use Rattle.asn1der_convert.specs.SetOrder.{keyed_parts, IsOrderKnown}
 use Rattle.asn1der_convert.specs.Tags.{IsStringTag, IsOtherPrimitive, IsOtherConstructed}
 
--- one element, around elements of A: a BOOLEAN, a BIT STRING, the octets of a string with its tag, the contents of any other primitive
+-- one element, around elements of A: a BOOLEAN, a BIT STRING, the contents in DER of a string with its tag, or of any other primitive
 -- element, a SET whose order is known, or the elements of any other constructed one
 pub data Branch (A : Type 0) : Type 0 where
   boolean : Bool → Branch A
@@ -87,12 +90,20 @@ pub record IsAround (C : List ℕ → Type 0) (m : BERMode) (t : Tag) (b : List 
   pub element : Element m t Constructed contents b
   pub inner : C contents
 
+-- within n levels, b is a string with the tag t, whose octets are contents of the tag's type, and d are these contents in DER
+abbrev pub IsString : Tag → BERMode → ℕ → List ℕ → List ℕ → Type 0
+IsString t m n d b = IsStringOf (HasContents (type_with t)) t m n d b
+
+-- b is a primitive element with the tag t, whose contents are those of the tag's type, and d are these contents in DER
+abbrev pub IsPrimitiveOf : Tag → BERMode → ℕ → List ℕ → List ℕ → Type 0
+IsPrimitiveOf t m n d b = Primitively (HasContents (type_with t)) t m n d b
+
 -- b encodes the element, R holds of each element within it, and parts gives these in DER; n levels are left
 abbrev pub HasBranch : {A : Type 0} → (A → List ℕ → Type 0) → (List A → List SetPart) → ℕ → BERMode → Branch A → List ℕ → Type 0
 HasBranch R parts n m (boolean v) b = EncodesBoolean m n v b
 HasBranch R parts n m (bits v) b = IsBits bits_tag m n v b
-HasBranch R parts n m (string t v) b = IsStringTag t × IsOctets t m n v b
-HasBranch R parts n m (primitive t c) b = IsOtherPrimitive t × Element m t Primitive c b
+HasBranch R parts n m (string t d) b = IsStringTag t × IsString t m n d b
+HasBranch R parts n m (primitive t d) b = IsOtherPrimitive t × IsPrimitiveOf t m n d b
 HasBranch R parts n m (set_of vs) b = IsAround (IsSetOfContents R parts m vs) m set_tag b
 HasBranch R parts n m (constructed t vs) b = IsOtherConstructed t × IsAround (IsOtherContents R parts t vs) m t b
 
@@ -102,7 +113,7 @@ unfolding Tree
 HasTree zero m v b = ⊥
 HasTree (suc n) m v b = HasBranch (HasTree n m) (tree_parts n) (suc n) m v b
 
--- elements of equal values: a SET OF in any order, and bit strings that differ only in unused bits
+-- elements of equal values: a SET OF in any order, bit strings that differ only in unused bits, and others by their contents in DER
 abbrev pub SameBranch : {A : Type 0} → (A → A → Type 0) → Branch A → Branch A → Type 0
 SameBranch E (boolean v) (boolean w) = v ≡ w
 SameBranch E (bits v) (bits w) = bits_contents v ≡ bits_contents w

@@ -2,8 +2,10 @@
 //!
 //! `convert` begins the walk. `convert_contents` goes from element to element, `convert_element` decides by an element's tag how its
 //! contents are read, and `convert_constructed` descends one level. Each returns whole elements in DER, so that those of a SET OF are
-//! put in order before their header is written.
+//! put in order before their header is written. The contents of a primitive element are turned into those in DER by `asn1_contents`.
 ghost use Rattle.std.specs.Prelude.{◌≡◌, ◌≤◌, ◌<◌, ◌+◌, ◌*◌, ◌-◌, ◌%◌, ◌^◌, ◌∷◌, [], ℕ, List, IfOk, IfErr, MatchOption, length};
+ghost use Rattle.asn1_contents.specs.Contents.{HasContents};
+ghost use Rattle.asn1_contents.specs.ContentsType.{type_with};
 ghost use Rattle.yasna_base.specs.Bits.{bits_tag, bits_contents};
 ghost use Rattle.yasna_base.specs.Boolean.{boolean_byte, boolean_tag};
 ghost use Rattle.yasna_base.specs.Grammar.{max_depth};
@@ -16,17 +18,19 @@ ghost use Rattle.yasna_base.specs.Identifier.{BeginsWithTag};
 ghost use Rattle.yasna_base.specs.Raw.{IsRaw, IsJoining};
 ghost use Rattle.yasna_base.specs.declared.tag.PCBit.TheVariants.{Primitive, Constructed};
 ghost use Rattle.asn1der_convert.specs.Ambiguity.{EnclosesParts, MeetsAt, MeetsTo, AreTheAmbiguities};
-ghost use Rattle.asn1der_convert.specs.Parts.{set_parts, PartAt, PartsAt};
+ghost use Rattle.asn1der_convert.specs.Parts.{set_parts, IsElementOf, PartAt, PartsAt};
 ghost use Rattle.asn1der_convert.specs.declared.error.ConvertError.TheVariants.{Memory};
 ghost use Rattle.asn1der_convert.specs.Tags.{IsOtherTag, IsOtherPrimitive, IsOtherConstructed, IsStringTag};
 
 use crate::ambiguity::Ambiguities;
 use crate::contents_class::{ContentsClass, class_of, is_constructed_type, is_primitive_type};
 use crate::der_element::DerElement;
-use crate::error::{ConvertError, offset_of};
+use crate::error::{ConvertError, contents_error, offset_of};
 use crate::segments::{StringKind, string_error};
 use crate::set_order::put_in_order;
 use crate::writing::{element, joined};
+use asn1_contents::contents_type::contents_type;
+use asn1_contents::der_contents::der_contents;
 use std::alloc::Global;
 use yasna_base::bytes::identifier::read_identifier;
 use yasna_base::error::ASN1ErrorKind;
@@ -117,12 +121,31 @@ fn convert_bits(alloc: Global, cursor: Cursor<'_>) -> Result<(DerElement, &[u8])
     Ok((part, rest))
 }
 
-// A string of octets, in one piece (X.690, 10.2).
+// The primitive element with this tag and the contents in DER of these, which are those of an element that begins here.
+fn primitive_element(
+    alloc: Global,
+    cursor: Cursor<'_>,
+    tag: Tag,
+    contents: Vec<u8>,
+) -> Result<DerElement, ConvertError>
+    ensures tag { IfOk result (λ p. p.tag ≡ tag) }
+    ensures bytes { IfOk result (λ p. IsElementOf Ber tag contents.items p) }
+    ensures rejection { IfErr result (λ e. (e ≡ Memory → ⊥) → (d : List ℕ) → HasContents (type_with tag) Ber d contents.items → ⊥) }
+{
+    let contents_type = contents_type(tag);
+    let Some(contents) = der_contents(alloc, contents_type, contents)? else {
+        return Err(contents_error(cursor, contents_type));
+    };
+    element(alloc, tag, PCBit::Primitive, contents)
+}
+
+// A string of octets, in one piece (X.690, 10.2), and in DER's form.
 fn convert_octets(
     alloc: Global,
     cursor: Cursor<'_>,
     tag: Tag,
 ) -> Result<(DerElement, &[u8]), ConvertError>
+    requires mode { cursor.mode ≡ Ber }
     requires string { IsStringTag tag }
     requires begins { BeginsWithTag tag cursor.left.now }
     ensures { PartAt cursor.entry.levels cursor.entry.mode cursor.entry.left.now result }
@@ -134,8 +157,10 @@ fn convert_octets(
             return Err(string_error(alloc, cursor, tag, octets, rejection.kind));
         }
     };
-    let part = element(alloc, tag, PCBit::Primitive, octets)?;
-    Ok((part, rest))
+    match primitive_element(alloc, cursor, tag, octets) {
+        Ok(part) => Ok((part, rest)),
+        Err(error) => Err(error),
+    }
 }
 
 /// The bytes after contents, if they end here.
@@ -148,13 +173,14 @@ pub fn after_end<'a>(end: ContentsEnd<'a>, left: &'a [u8]) -> Option<&'a [u8]>
     }
 }
 
-// A primitive element of another type, as it is.
+// A primitive element of another type, whose contents are in DER's form.
 fn convert_primitive<'a>(
     alloc: Global,
     cursor: Cursor<'a>,
     tag: Tag,
     opened: &Opened<'a>,
 ) -> Result<(DerElement, &'a [u8]), ConvertError>
+    requires mode { cursor.mode ≡ Ber }
     requires level { 1 ≤ cursor.levels }
     requires other { IsOtherPrimitive tag }
     requires opens { OpensAt cursor.mode tag Primitive cursor.left.now opened.now.contents opened.now.end }
@@ -166,8 +192,10 @@ fn convert_primitive<'a>(
     };
     let mut contents = Vec::new(alloc);
     contents.extend_from_slice(opened.contents)?;
-    let part = element(alloc, tag, PCBit::Primitive, contents)?;
-    Ok((part, after))
+    match primitive_element(alloc, cursor, tag, contents) {
+        Ok(part) => Ok((part, after)),
+        Err(error) => Err(error),
+    }
 }
 
 // The constructed element with this tag around these, which begins here, and whose ambiguities are noted.

@@ -3,12 +3,13 @@ ghost use Rattle.std.specs.Prelude.{◌≡◌, ◌↔◌, ◌-◌, length, None}
 ghost use Rattle.yasna_base.specs.declared.error.ASN1ErrorKind.TheVariants.{OutOfMemory};
 ghost use Rattle.asn1der_convert.specs.declared.error.ConvertError.TheVariants.{Malformed, Memory};
 
+use asn1_contents::contents_type::ContentsType;
 use std::alloc::{AllocError, AllocFailed};
 use std::fmt;
 use yasna_base::error::ASN1ErrorKind;
 use yasna_bytes::bytes::cursor::Cursor;
 
-/// What was expected in a string where a segment is malformed (X.690, 8.6.4, 8.7.3 and 8.23).
+/// What was expected of a segment of a string (X.690, 8.6.4, 8.7.3 and 8.23), or of the contents of a type (X.690, 8 and 11).
 #[derive(Clone, Copy, PartialEq, Eq, Debug)]
 pub enum Expected {
     /// A segment of a string of octets.
@@ -17,6 +18,18 @@ pub enum Expected {
     BitString,
     /// No unused bits, since this segment isn't the last.
     NoUnusedBits,
+    /// A number in the fewest octets.
+    Number,
+    /// No contents.
+    Nothing,
+    /// Subidentifiers, each in the fewest octets.
+    Subidentifiers,
+    /// Characters of the type.
+    Characters,
+    /// A UTCTime.
+    UtcTime,
+    /// A GeneralizedTime with a zone, since DER has no local time.
+    GeneralizedTime,
 }
 
 impl fmt::Display for Expected {
@@ -27,6 +40,14 @@ impl fmt::Display for Expected {
             Expected::NoUnusedBits => {
                 f.write_str("expected no unused bits in a segment that isn't the last")
             }
+            Expected::Number => f.write_str("expected a number in the fewest bytes"),
+            Expected::Nothing => f.write_str("expected no contents"),
+            Expected::Subidentifiers => {
+                f.write_str("expected subidentifiers in the fewest bytes")
+            }
+            Expected::Characters => f.write_str("expected characters of the type"),
+            Expected::UtcTime => f.write_str("expected a UTCTime"),
+            Expected::GeneralizedTime => f.write_str("expected a GeneralizedTime with a zone"),
         }
     }
 }
@@ -40,7 +61,7 @@ pub enum ConvertError {
         offset: usize,
         /// The kind of the error.
         kind: ASN1ErrorKind,
-        /// What was expected of a segment.
+        /// What was expected of a segment, or of contents.
         expected: Option<Expected>,
     },
     /// Memory ran out.
@@ -52,6 +73,30 @@ pub fn offset_of(cursor: Cursor<'_>) -> usize
     ensures { result ≡ cursor.entry.end - length cursor.entry.left.now }
 {
     cursor.end.saturating_sub(cursor.left.len())
+}
+
+// What is expected of the contents of a type.
+fn expected_of(contents_type: ContentsType) -> Option<Expected> {
+    match contents_type {
+        ContentsType::Number => Some(Expected::Number),
+        ContentsType::Nothing => Some(Expected::Nothing),
+        ContentsType::Subidentifiers => Some(Expected::Subidentifiers),
+        ContentsType::Text(_) => Some(Expected::Characters),
+        ContentsType::UtcTime => Some(Expected::UtcTime),
+        ContentsType::GeneralizedTime => Some(Expected::GeneralizedTime),
+        ContentsType::Octets => None,
+    }
+}
+
+/// The error of the element that begins here, if its contents aren't those of its type, or have no form in DER.
+pub fn contents_error(cursor: Cursor<'_>, contents_type: ContentsType) -> ConvertError
+    ensures { result ≡ Memory → ⊥ }
+{
+    ConvertError::Malformed {
+        offset: offset_of(cursor),
+        kind: ASN1ErrorKind::Invalid,
+        expected: expected_of(contents_type),
+    }
 }
 
 impl ConvertError {

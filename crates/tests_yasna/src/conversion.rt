@@ -9,7 +9,7 @@ use yasna::ASN1ErrorKind::{Eof, Invalid, StackOverflow};
 use yasna::{ASN1ErrorKind, ASN1Result};
 
 // Elements in BER, the same in DER, and the first ambiguity of each kind: segments, an implicit SET OF, the order of a SET.
-static CONVERTED: [(&str, &str, [Option<usize>; 3]); 49] = [
+static CONVERTED: [(&str, &str, [Option<usize>; 3]); 48] = [
     // booleans
     ("010101", "0101FF", [None, None, None]),
     ("010100", "010100", [None, None, None]),
@@ -36,9 +36,8 @@ static CONVERTED: [(&str, &str, [Option<usize>; 3]); 49] = [
     ("2309030200FF030304ABCF", "030404FFABC0", [None, None, None]),
     ("030204FF", "030204F0", [None, None, None]),
     ("23800000", "030100", [None, None, None]),
-    // a text, and a time
+    // a text
     ("2C800401C30401A90000", "0C02C3A9", [None, None, None]),
-    ("37800402323604000000", "17023236", [None, None, None]),
     // elements of a SET OF, which are ordered by what is written
     (
         "3109020103020101020102",
@@ -140,6 +139,156 @@ static CONVERTED: [(&str, &str, [Option<usize>; 3]); 49] = [
     ("3F2503040161", "3F2503040161", [None, None, None]),
 ];
 
+// Elements whose contents are validated, and the same in DER.
+static CONTENTS: [(&str, &str, [Option<usize>; 3]); 46] = [
+    // numbers in the fewest octets
+    ("020105", "020105", [None, None, None]),
+    ("020100", "020100", [None, None, None]),
+    ("0201FF", "0201FF", [None, None, None]),
+    ("020180", "020180", [None, None, None]),
+    ("02020080", "02020080", [None, None, None]),
+    ("0202FF7F", "0202FF7F", [None, None, None]),
+    (
+        "020A00FFFFFFFFFFFFFFFFFF",
+        "020A00FFFFFFFFFFFFFFFFFF",
+        [None, None, None],
+    ),
+    ("0A01FF", "0A01FF", [None, None, None]),
+    // subidentifiers: one of 2.25 with 128 bits, and a relative one
+    (
+        "06146983DAE8B2C1F0A9D8E5B6C4D2A1F0E9B7C3D15A",
+        "06146983DAE8B2C1F0A9D8E5B6C4D2A1F0E9B7C3D15A",
+        [None, None, None],
+    ),
+    ("0D02817F", "0D02817F", [None, None, None]),
+    // texts: in UTF-8, of each class, and units of UTF-16
+    ("0C05C3A9E29C93", "0C05C3A9E29C93", [None, None, None]),
+    ("0C00", "0C00", [None, None, None]),
+    ("120430312039", "120430312039", [None, None, None]),
+    (
+        "1308412D7A202830293F",
+        "1308412D7A202830293F",
+        [None, None, None],
+    ),
+    ("1602007F", "1602007F", [None, None, None]),
+    ("1A02207E", "1A02207E", [None, None, None]),
+    ("1E0600E9D83DDE00", "1E0600E9D83DDE00", [None, None, None]),
+    ("1E00", "1E00", [None, None, None]),
+    // characters of other types aren't validated
+    ("1401E9", "1401E9", [None, None, None]),
+    ("1C0100", "1C0100", [None, None, None]),
+    ("0701FF", "0701FF", [None, None, None]),
+    ("1B0180", "1B0180", [None, None, None]),
+    // nor are contents under tags of other classes, or of types that aren't known
+    ("8200", "8200", [None, None, None]),
+    ("C2020001", "C2020001", [None, None, None]),
+    ("45020500", "45020500", [None, None, None]),
+    ("0F020001", "0F020001", [None, None, None]),
+    // a UTCTime: in DER, without seconds, and at offsets, also over the end of a year
+    (
+        "170D3236303331383132333034355A",
+        "170D3236303331383132333034355A",
+        [None, None, None],
+    ),
+    (
+        "170B323630333138313233305A",
+        "170D3236303331383132333030305A",
+        [None, None, None],
+    ),
+    (
+        "17113236303331383132333034352B30313330",
+        "170D3236303331383131303034355A",
+        [None, None, None],
+    ),
+    (
+        "170F393931323331323333302D30313030",
+        "170D3030303130313030333030305A",
+        [None, None, None],
+    ),
+    (
+        "3780040632363033313804073132333034355A0000",
+        "170D3236303331383132333034355A",
+        [None, None, None],
+    ),
+    (
+        "378004083236303331383132040333305A0000",
+        "170D3236303331383132333030305A",
+        [None, None, None],
+    ),
+    // a GeneralizedTime: in DER, in its other forms, and second 60
+    (
+        "180F32303236303331383132333034355A",
+        "180F32303236303331383132333034355A",
+        [None, None, None],
+    ),
+    (
+        "181132303236303331383132333034352E355A",
+        "181132303236303331383132333034352E355A",
+        [None, None, None],
+    ),
+    (
+        "180B323032363033313831325A",
+        "180F32303236303331383132303030305A",
+        [None, None, None],
+    ),
+    (
+        "180D3230323630333138313233305A",
+        "180F32303236303331383132333030305A",
+        [None, None, None],
+    ),
+    (
+        "181332303236303331383132333034352E3530305A",
+        "181132303236303331383132333034352E355A",
+        [None, None, None],
+    ),
+    (
+        "181332303236303331383132333034352E3030305A",
+        "180F32303236303331383132333034355A",
+        [None, None, None],
+    ),
+    (
+        "181232303236303331383132333034352C32355A",
+        "181232303236303331383132333034352E32355A",
+        [None, None, None],
+    ),
+    (
+        "180D323032363033313831322E355A",
+        "180F32303236303331383132333030305A",
+        [None, None, None],
+    ),
+    (
+        "18103230323630333138313233302E37355A",
+        "180F32303236303331383132333034355A",
+        [None, None, None],
+    ),
+    (
+        "182232303236303331383132333034352E30303030303030303031323334302B30353330",
+        "181D32303236303331383037303034352E303030303030303030313233345A",
+        [None, None, None],
+    ),
+    (
+        "181132303236303331383030333034352D3031",
+        "180F32303236303331383031333034355A",
+        [None, None, None],
+    ),
+    (
+        "180F32303136313233313233353936305A",
+        "180F32303136313233313233353936305A",
+        [None, None, None],
+    ),
+    (
+        "3880040A32303236303331383132040333305A0000",
+        "180F32303236303331383132333030305A",
+        [None, None, None],
+    ),
+    // elements of a SET OF, which are ordered by what is written: two times and one moment
+    (
+        "3120170B323630333138313233305A17113236303331383132333030302B30313030",
+        "311E170D3236303331383131333030305A170D3236303331383132333030305A",
+        [None, None, None],
+    ),
+];
+
 fn is_converted(
     alloc: Global,
     input: &str,
@@ -237,6 +386,157 @@ static MALFORMED: [(&str, usize, ASN1ErrorKind, Option<Expected>); 33] = [
     ("03020801", 0, Invalid, None),
 ];
 
+// Malformed contents, where their elements are, and what was expected.
+static MALFORMED_CONTENTS: [(&str, usize, ASN1ErrorKind, Option<Expected>); 46] = [
+    // numbers in no octets, and in too many
+    ("0200", 0, Invalid, Some(Expected::Number)),
+    ("02020001", 0, Invalid, Some(Expected::Number)),
+    ("0202FF80", 0, Invalid, Some(Expected::Number)),
+    ("30050201050A00", 5, Invalid, Some(Expected::Number)),
+    ("0A020000", 0, Invalid, Some(Expected::Number)),
+    // a NULL with contents
+    ("050100", 0, Invalid, Some(Expected::Nothing)),
+    // no subidentifier, one in too many octets, and one that isn't finished
+    ("0600", 0, Invalid, Some(Expected::Subidentifiers)),
+    ("06022A80", 0, Invalid, Some(Expected::Subidentifiers)),
+    ("06032A8001", 0, Invalid, Some(Expected::Subidentifiers)),
+    ("0602802A", 0, Invalid, Some(Expected::Subidentifiers)),
+    ("0D00", 0, Invalid, Some(Expected::Subidentifiers)),
+    ("30040D028001", 2, Invalid, Some(Expected::Subidentifiers)),
+    ("0D0181", 0, Invalid, Some(Expected::Subidentifiers)),
+    // characters that the type hasn't, in one piece and in segments
+    ("0C01FF", 0, Invalid, Some(Expected::Characters)),
+    ("0C02C080", 0, Invalid, Some(Expected::Characters)),
+    ("0C03EDA080", 0, Invalid, Some(Expected::Characters)),
+    ("120141", 0, Invalid, Some(Expected::Characters)),
+    ("130140", 0, Invalid, Some(Expected::Characters)),
+    ("160180", 0, Invalid, Some(Expected::Characters)),
+    ("1A011F", 0, Invalid, Some(Expected::Characters)),
+    ("1A017F", 0, Invalid, Some(Expected::Characters)),
+    ("1E0141", 0, Invalid, Some(Expected::Characters)),
+    ("1E03004100", 0, Invalid, Some(Expected::Characters)),
+    ("050033050403414042", 2, Invalid, Some(Expected::Characters)),
+    (
+        "2C800401C30401410000",
+        0,
+        Invalid,
+        Some(Expected::Characters),
+    ),
+    // what isn't a UTCTime
+    ("1700", 0, Invalid, Some(Expected::UtcTime)),
+    ("17023236", 0, Invalid, Some(Expected::UtcTime)),
+    (
+        "170C323630333138313233303435",
+        0,
+        Invalid,
+        Some(Expected::UtcTime),
+    ),
+    (
+        "170D3236313331383132333034355A",
+        0,
+        Invalid,
+        Some(Expected::UtcTime),
+    ),
+    (
+        "170D3236303233303132333034355A",
+        0,
+        Invalid,
+        Some(Expected::UtcTime),
+    ),
+    (
+        "170D3236303331383132363034355A",
+        0,
+        Invalid,
+        Some(Expected::UtcTime),
+    ),
+    (
+        "170D3236303331383132333036305A",
+        0,
+        Invalid,
+        Some(Expected::UtcTime),
+    ),
+    (
+        "170F3236303331383132333034352E355A",
+        0,
+        Invalid,
+        Some(Expected::UtcTime),
+    ),
+    (
+        "170F3236303331383132333034352B3031",
+        0,
+        Invalid,
+        Some(Expected::UtcTime),
+    ),
+    (
+        "170D3236303331383132333020355A",
+        0,
+        Invalid,
+        Some(Expected::UtcTime),
+    ),
+    (
+        "378004063236303331380404313233300000",
+        0,
+        Invalid,
+        Some(Expected::UtcTime),
+    ),
+    // what isn't a GeneralizedTime, or has no zone, or a year after 9999
+    ("1800", 0, Invalid, Some(Expected::GeneralizedTime)),
+    (
+        "180932303236303331385A",
+        0,
+        Invalid,
+        Some(Expected::GeneralizedTime),
+    ),
+    (
+        "180E3230323630333138313233303435",
+        0,
+        Invalid,
+        Some(Expected::GeneralizedTime),
+    ),
+    (
+        "181032303236303331383132333034352E5A",
+        0,
+        Invalid,
+        Some(Expected::GeneralizedTime),
+    ),
+    (
+        "181032303236303331383132333034352E35",
+        0,
+        Invalid,
+        Some(Expected::GeneralizedTime),
+    ),
+    (
+        "180F32303236313331383132333034355A",
+        0,
+        Invalid,
+        Some(Expected::GeneralizedTime),
+    ),
+    (
+        "180F32303236303331383234333034355A",
+        0,
+        Invalid,
+        Some(Expected::GeneralizedTime),
+    ),
+    (
+        "181332303236303331383132333034352B32343030",
+        0,
+        Invalid,
+        Some(Expected::GeneralizedTime),
+    ),
+    (
+        "181339393939313233313233353935392D30313030",
+        0,
+        Invalid,
+        Some(Expected::GeneralizedTime),
+    ),
+    (
+        "181232303236303331383132333034352E355A5A",
+        0,
+        Invalid,
+        Some(Expected::GeneralizedTime),
+    ),
+];
+
 // Whether elements are malformed there and so, or converted where that is none.
 fn is_malformed(alloc: Global, text: &str, malformed: Option<Malformed>) -> ASN1Result<bool> {
     let bytes = bytes_of(alloc, text)?;
@@ -297,5 +597,17 @@ fn elements_in_ber_become_der_or_are_rejected(rt: HostRuntime) {
     }
     for row in &DEEP {
         holds(&rt, row.0, is_deep(rt.alloc(), row.1, row.2, row.3));
+    }
+}
+
+// As above, of contents that aren't copied as they are.
+#[test]
+fn contents_in_ber_become_der_or_are_rejected(rt: HostRuntime) {
+    for row in &CONTENTS {
+        holds(&rt, row.0, is_row(rt.alloc(), row.0, row.1, row.2));
+    }
+    for row in &MALFORMED_CONTENTS {
+        let malformed = Some((row.1, row.2, row.3));
+        holds(&rt, row.0, is_malformed(rt.alloc(), row.0, malformed));
     }
 }

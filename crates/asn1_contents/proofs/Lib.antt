@@ -1,0 +1,2 @@
+pub mod Subidentifiers
+pub mod Contents

@@ -1,0 +1,4 @@
+pub mod Subidentifiers
+pub mod ContentsType
+pub mod Contents
+pub mod Laws
