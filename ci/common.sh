@@ -1,14 +1,16 @@
 # What the scripts of this folder share. They are at the top of the repository, and have a folder $work.
 
 # Sees that the program of the crate $1 is there as LLVM builds it, which `rt ci` leaves so: where it isn't, or a source is newer,
-# it is proved and built first, and run as the gate runs it.
+# it is proved and built first, and run as the gate runs it. A program that reads files of data/, which aren't beside it here, prints its help.
 build() {
     program=crates/$1/out/$1
     if [ -x "$program" ] && [ -z "$(find crates/*/src -name '*.rt' -newer "$program")" ]; then
         return
     fi
     echo "$program isn't there, or is older than a source: it is proved and built first"
-    if ! (cd "crates/$1" && rt run -- $(cat args 2> /dev/null) < stdin) > "$work/said" 2>&1; then
+    words=$(cat "crates/$1/args" 2> /dev/null || :)
+    [ ! -d "crates/$1/data" ] || words=--help
+    if ! (cd "crates/$1" && rt run -- $words < stdin) > "$work/said" 2>&1; then
         cat "$work/said" >&2
         exit 1
     fi

@@ -17,11 +17,12 @@ SCRIPTS = {
     "words": [["ci/words.sh"]],
     "guide": [["ci/guide.sh"]],
     "lifetimes": [["ci/lifetimes.sh"]],
+    "modules": [["ci/modules.sh"]],
     "memory": [["ci/tool_without_memory.sh"], ["ci/program_ends.sh"], ["ci/refused_memory.sh"]],
 }
 # What one run of `rt ci` does.
 PROVED = ["proofs", "mutants", "tests", "programs"]
-STAGES = ["api", "words", "guide", "lifetimes", *PROVED, "memory"]
+STAGES = ["api", "words", "guide", "lifetimes", *PROVED, "modules", "memory"]
 USAGE = f"usage: sh ci/gate.sh [{'|'.join(STAGES)} [CRATE ..]]"
 # The memory of a check is 1.0 to 2.6 GB, and more than five side by side save nothing.
 BYTES_A_CHECK = 3_000_000_000

@@ -1,0 +1,133 @@
+"""What ci/modules.sh runs: how asn1compile ends, what it prints, and which files it writes, on modules made here.
+
+The arguments are the numbers of cases that passed and failed before.
+"""
+
+import shutil
+import subprocess
+import sys
+import tempfile
+from pathlib import Path
+
+PROGRAM = Path("crates/asn1compile/out/asn1compile").resolve()
+REQUESTS = Path("modules/PKCS-10.asn1").resolve()
+REQUEST_TYPES = Path("crates/pkcs10").resolve()
+
+FIRST = """First DEFINITIONS AUTOMATIC TAGS ::= BEGIN
+IMPORTS Flags FROM Second;
+Report ::= SEQUENCE { flags Flags, level INTEGER (0..9) }
+END
+"""
+SECOND = """Second DEFINITIONS AUTOMATIC TAGS ::= BEGIN
+Flags ::= SEQUENCE OF BOOLEAN
+Alone ::= SEQUENCE { contents OCTET STRING }
+END
+"""
+LOOSE = """Loose DEFINITIONS AUTOMATIC TAGS ::= BEGIN
+Known ::= SEQUENCE { flag BOOLEAN }
+Code ::= SEQUENCE {
+    octets OCTET STRING (CONTAINING Known) }
+END
+"""
+MALFORMED = """Malformed DEFINITIONS ::= BEGIN
+Code ::= SEQUENCE { first }
+END
+"""
+UNKNOWN = """Unknown DEFINITIONS ::= BEGIN
+Known ::= SEQUENCE { flag BOOLEAN }
+Code ::= SEQUENCE {
+    first Missing }
+END
+"""
+# What is listed of their types.
+FLAGS = "Flags: exact, canonical\n"
+ALONE = "Alone: exact, canonical\n"
+REPORT = "Report: exact, canonical\n"
+KNOWN = "Known: exact, canonical\n"
+CODE = "Code: accepts more, canonical\n"
+# What is said of what is wrong in them.
+IS_LOOSE = """loose.asn1:4:26: the contents of a string aren't read
+        octets OCTET STRING (CONTAINING Known) }
+                             ^
+"""
+IS_MALFORMED = """malformed.asn1:2:27: expected a type
+    Code ::= SEQUENCE { first }
+                              ^
+"""
+IS_UNKNOWN = """unknown.asn1:4:11: this name is neither assigned nor imported
+        first Missing }
+              ^
+"""
+# What is said of a copy of a crate that differs.
+IS_OTHER = "copies/pkcs10/src/attributes.rt: it differs from what the module gives\n"
+MODULES = {"first": FIRST, "second": SECOND, "loose": LOOSE, "malformed": MALFORMED, "unknown": UNKNOWN}
+
+
+def run(folder, *words, given=""):
+    """Runs the program in a folder: its status, and its two outputs."""
+    ran = subprocess.run([PROGRAM, *words], cwd=folder, input=given, capture_output=True, text=True)
+    return ran.returncode, ran.stdout, ran.stderr
+
+
+def written(folder):
+    """The files below a folder, or none where it isn't there."""
+    return sorted(str(it.relative_to(folder)) for it in folder.rglob("*") if it.is_file())
+
+
+def ends(folder):
+    """Each end of the program: a name, what it does, and what it has to do."""
+    yield "two modules", run(folder, "--list", "first.asn1", "second.asn1"), (0, f"{FLAGS}{REPORT}{ALONE}", "")
+    yield "standard input", run(folder, "--list", "-", given=SECOND), (0, f"{FLAGS}{ALONE}", "")
+    yield "a type that accepts more", run(folder, "--list", "loose.asn1"), (0, f"{KNOWN}{CODE}", "")
+    yield "it with --strict", run(folder, "--list", "--strict", "loose.asn1"), (1, f"{KNOWN}{CODE}", IS_LOOSE)
+    yield "what isn't ASN.1", run(folder, "--list", "malformed.asn1"), (1, "", IS_MALFORMED)
+    yield "a name that isn't defined", run(folder, "--list", "unknown.asn1"), (1, KNOWN, IS_UNKNOWN)
+    yield "a file that isn't there", run(folder, "--list", "missing.asn1")[0], 3
+    yield "no file", run(folder, "--list")[0], 2
+
+
+def crates(folder):
+    """The crates that are written: a name, what is there, and what has to be."""
+    out = folder / "crates"
+    yield "a crate", run(folder, "--crate", "all", "first.asn1", "second.asn1")[0], 0
+    yield "its files", written(out / "all"), ["src/alone.rt", "src/flags.rt", "src/lib.rt", "src/report.rt"]
+    yield "a type and those that it names", run(folder, "--crate", "some", "--type", "Report", "first.asn1", "second.asn1")[0], 0
+    yield "their files", written(out / "some"), ["src/flags.rt", "src/lib.rt", "src/report.rt"]
+
+
+def comparisons(folder):
+    """The crate of requests for certificates, and copies of it that differ: a name, what is printed of them, and what has to be."""
+    words = ("--check", "--out", "copies", "--crate", "pkcs10", "--use", "x509", REQUESTS)
+    copy = folder / "copies/pkcs10"
+    shutil.copytree(REQUEST_TYPES, copy, ignore=shutil.ignore_patterns("out"))
+    yield "the same", run(folder, *words), (0, "", "")
+    source = copy / "src/attributes.rt"
+    text = source.read_text()
+    source.write_text(text.replace("::has_tag(tag)", "::has_tag(other)"))
+    yield "another word", run(folder, *words), (1, "", IS_OTHER)
+    source.write_text(text + "\nfn more() {}\n")
+    yield "a function more", run(folder, *words), (1, "", IS_OTHER)
+    source.write_text(text.replace("\n    ", "\n\t"))
+    yield "another layout", run(folder, *words), (0, "", "")
+    source.unlink()
+    yield "a file less", run(folder, *words)[0], 3
+
+
+def main(passed, failed):
+    with tempfile.TemporaryDirectory() as room:
+        folder = Path(room)
+        for name, text in MODULES.items():
+            (folder / f"{name}.asn1").write_text(text)
+        for cases in ends, crates, comparisons:
+            for name, found, wanted in cases(folder):
+                if found == wanted:
+                    passed += 1
+                else:
+                    failed += 1
+                    print(f"{name}: {found}, and not {wanted}")
+    print(f"modules: {passed} passed, {failed} failed")
+    return 1 if failed else 0
+
+
+if __name__ == "__main__":
+    sys.exit(main(*map(int, sys.argv[1:])))
