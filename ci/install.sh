@@ -7,7 +7,7 @@
 set -eu
 cd "$(dirname "$0")/.."
 prefix=${1:-/usr/local}
-for program in asn1show asn1der asn1check; do
+for program in asn1show asn1der asn1check asn1compile; do
     echo "$program: proved and built"
     # --help is the shortest run: `rt run` builds the program, and leaves it in out/
     (cd "crates/$program" && rt run -- --help > /dev/null)

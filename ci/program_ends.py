@@ -18,6 +18,8 @@ MANY = 256 << 20
 OPTION = re.compile(r"--[a-z]+")
 # Elements for a long listing.
 NULLS = b"\x05\x00" * 200_000
+# A run of asn1compile that reads its module from standard input.
+LISTING = ["--list", "--use", "x509", "-"]
 
 
 def many_octets():
@@ -40,7 +42,9 @@ def ends(crate, words, given, closed=False, few=False):
 
 
 def stored(crate):
-    """The words and the input of the run that is stored beside the sources."""
+    """The words and the input of the run that is stored beside the sources, or of one that reads standard input."""
+    if crate == "asn1compile":
+        return LISTING, Path("modules/PKCS-10.asn1").read_bytes()
     folder = Path(f"crates/{crate}")
     words = (folder / "args").read_text().split("\n") if (folder / "args").exists() else []
     return [it for it in words if it], (folder / "stdin").read_bytes()

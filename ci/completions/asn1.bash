@@ -1,4 +1,4 @@
-# Completions of asn1show, asn1der and asn1check for bash.
+# Completions of asn1show, asn1der, asn1check and asn1compile for bash.
 
 _asn1() {
     local word=${COMP_WORDS[COMP_CWORD]} options=
@@ -6,15 +6,18 @@ _asn1() {
         *asn1show) options='--ber --der --cer --hex --pem --bytes --check --depth --at --extract --contents --json --decimal --width --help --version' ;;
         *asn1der) options='--strict --help --version' ;;
         *asn1check) options='--ber --der --encode --help --version' ;;
+        *asn1compile) options='--crate --out --type --use --list --check --strict --help --version' ;;
     esac
     local kinds='certificate crl public-key private-key cms snmp-v1 snmp-v2c ldap'
     if [[ $word == -* ]]; then
         mapfile -t COMPREPLY < <(compgen -W "$options" -- "$word")
     elif [[ $1 == *asn1check && " ${COMP_WORDS[*]:1:COMP_CWORD-1} " != *\ [a-z]* ]]; then
         mapfile -t COMPREPLY < <(compgen -W "$kinds" -- "$word")
+    elif [[ $1 == *asn1compile && ${COMP_WORDS[COMP_CWORD-1]} == --use ]]; then
+        mapfile -t COMPREPLY < <(compgen -W x509 -- "$word")
     else
         mapfile -t COMPREPLY < <(compgen -f -- "$word")
     fi
 }
 
-complete -o filenames -F _asn1 asn1show asn1der asn1check
+complete -o filenames -F _asn1 asn1show asn1der asn1check asn1compile
