@@ -3,7 +3,8 @@
 //! | Mark | Represents |
 //! |---|---|
 //! | `@N`, `@V` | the notation of an alternative, and the type of its values |
-//! | `@L`, `@W`, `@M` | the terms of its law, of its law of writing, and that no encoding is empty |
+//! | `@L`, `@W` | the terms of its law and of its law of writing |
+//! | `@M` | the term that no encoding of its value is empty |
 //! | `@v` | the name of its variant |
 //! | `@g` | the name of its variant in clauses |
 //! | `@T` | the name of the enum |
@@ -111,11 +112,11 @@ pub static CHOICE_WRITTEN: Choices = Choices {
     close: ")",
 };
 
-/// The term that says that no encoding is empty.
-pub static CHOICE_NON_EMPTY: Choices = Choices {
-    one: "(alternative_non_empty @M ",
-    last: "@M",
-    close: ")",
+/// Why no encoding of each variant is empty.
+pub static NON_EMPTIES: Choices = Choices {
+    one: "      | @g@p ↦ @M\n",
+    last: "      | @g@p ↦ @M\n",
+    close: "",
 };
 
 // An alternative, its names and its place.
@@ -255,7 +256,8 @@ fn before_tag(term: &[u8]) -> Option<&[u8]> {
     term.get(..term.len().saturating_sub(2))
 }
 
-// Appends the term that says that no encoding of an alternative is empty, under the tag that waits.
+// Appends the term that no encoding of an alternative's value is empty, under the tag that waits. Where a type has a header of its own, the
+// header says so.
 fn put_non_empty(notation: &Notation, names: &TypeNames, out: &mut Text) {
     let mut term = out.another();
     put_notation(notation, Aspect::NonEmpty, false, names, &mut term);
@@ -263,9 +265,9 @@ fn put_non_empty(notation: &Notation, names: &TypeNames, out: &mut Text) {
         Some(before) => {
             out.put(before);
             put_waiting_tag(notation, out);
-            out.say(")");
+            either(is_null(notation), ") m tt", ") m x", out);
         }
-        None => out.put(term.as_slice()),
+        None => out.say("element_non_empty _ _ _ _"),
     }
     if term.is_cut() {
         out.cut();

@@ -89,7 +89,7 @@ pub fn set_choice(fragments: &mut Fragments, source: &ChoiceSource<'_, '_>, name
     set_listed(fragments, b'5', &ACCEPTS, source, names);
     set_listed(fragments, b'Q', &CHOICE_LAW, source, names);
     set_listed(fragments, b'X', &CHOICE_WRITTEN, source, names);
-    set_listed(fragments, b'Z', &CHOICE_NON_EMPTY, source, names);
+    set_listed(fragments, b'Z', &NON_EMPTIES, source, names);
     set_choice_bodies(fragments);
 }
 
@@ -117,6 +117,6 @@ fn set_choice_bodies(fragments: &mut Fragments) {
     );
     fragments.set_filled(
         b'M',
-        "λ u m v. @Z m (⟦<@N as Represents<Sides>>⟧.value_of v)",
+        "λ u m v. elim v as (λ k. ⟦<Notated as Notation>⟧.means.encoding_under u m (⟦<@N as Represents<Sides>>⟧.value_of k) ≡ [] → ⊥) [\n@Z    ]",
     );
 }

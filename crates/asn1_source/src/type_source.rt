@@ -268,7 +268,9 @@ fn add_sequence(
     )
 }
 
-const VARIANT_CLAUSES: &str = "ghost use Rattle.@K.specs.declared.@y.@N.TheVariants.{@G};\n";
+// What a CHOICE brings in.
+const VARIANT_CLAUSES: &str =
+    "ghost use Rattle.std.specs.Prelude.{[]};\nghost use Rattle.@K.specs.declared.@y.@N.TheVariants.{@G};\n";
 
 // Adds the file of a CHOICE.
 fn add_choice(
