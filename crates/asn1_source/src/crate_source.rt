@@ -5,6 +5,7 @@ use crate::constants::add_constants;
 use crate::head::put_path;
 use crate::imports::Words;
 use crate::naming::UsedNames;
+use crate::open_choices::open_choices;
 use crate::order::Order;
 use crate::terms::{TypeName, TypeNames};
 use crate::text::Text;
@@ -24,9 +25,14 @@ pub fn names_of(
         order: Vec::new(alloc),
         imported,
     };
-    for definition in definitions {
+    let open = open_choices(alloc, definitions)?;
+    for (place, definition) in definitions.iter().enumerate() {
         let mut name = used.name(definition)?;
-        name.is_canonical = is_body_canonical(&definition.body, &names);
+        name.is_open = match open.get(place) {
+            Some(is_open) => *is_open,
+            None => false,
+        };
+        name.is_canonical = is_body_canonical(&definition.body, name.is_open, &names);
         if names.defined.push(name).is_err() {
             return Err(AllocError);
         }

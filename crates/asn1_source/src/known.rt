@@ -127,6 +127,7 @@ fn name_of(alloc: Global, known: &Known) -> Result<TypeName, AllocError> {
         law,
         is_enumeration: false,
         is_canonical: false,
+        is_open: false,
     })
 }
 

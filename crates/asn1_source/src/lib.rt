@@ -2,18 +2,21 @@
 #![tactic(auto)]
 
 mod alternatives;
+mod alternatives_source;
 mod canonical;
 mod choice_source;
 mod constants;
 mod crate_source;
 mod defaults;
 mod enumeration_source;
+mod extension;
 mod forms;
 mod head;
 mod import_table;
 mod imports;
 mod known;
 mod naming;
+mod open_choices;
 mod order;
 mod parts;
 mod parts_source;

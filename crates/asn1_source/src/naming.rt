@@ -138,6 +138,7 @@ impl UsedNames {
             law,
             is_enumeration: is_enumeration(&definition.body),
             is_canonical: false,
+            is_open: false,
         })
     }
 }
@@ -167,13 +168,15 @@ fn field_text(alloc: Global, name: &[u8]) -> Text {
     other
 }
 
-/// The names of the fields of parts.
+/// The names of the fields of parts, and `unknown` after them.
 pub fn field_names(alloc: Global, parts: &[Part<'_>]) -> Result<Vec<Vec<u8>>, AllocError> {
     let mut names = Vec::new(alloc);
     for part in parts {
         let text = distinct(names.as_slice(), field_text(alloc, part.name));
         keep(&mut names, alloc, text)?;
     }
+    let text = distinct(names.as_slice(), field_text(alloc, b"unknown"));
+    keep(&mut names, alloc, text)?;
     Ok(names)
 }
 
@@ -187,14 +190,19 @@ fn variant_text(alloc: Global, name: &[u8]) -> Text {
     text
 }
 
-/// The names of the variants of alternatives.
+/// The names of the variants of alternatives, and `Unknown` of an open CHOICE.
 pub fn variant_names(
     alloc: Global,
     alternatives: &[Alternative<'_>],
+    is_open: bool,
 ) -> Result<Vec<Vec<u8>>, AllocError> {
     let mut names = Vec::new(alloc);
     for alternative in alternatives {
         let text = distinct(names.as_slice(), variant_text(alloc, alternative.name));
+        keep(&mut names, alloc, text)?;
+    }
+    if is_open {
+        let text = distinct(names.as_slice(), variant_text(alloc, b"unknown"));
         keep(&mut names, alloc, text)?;
     }
     Ok(names)

@@ -226,6 +226,77 @@ impl CanonicalParts for @R {
 }
 ";
 
+/// Alternatives of a CHOICE by one name. `@R` is their name, `@U` the sides of their values.
+pub static ALTERNATIVES_IMPLS: &str = "
+/// The values of these alternatives.
+pub type @RSides = @U;
+
+/// These alternatives.
+pub struct @R;
+
+impl Alternatives for @R {
+    type Value = @RSides;
+
+    type Inner = ();
+
+    ghost tags = { ⟦<Each as Alternatives>⟧.tags };
+
+    ghost unambiguous = { ⟦<Each as Alternatives>⟧.unambiguous };
+
+    ghost encodes = { ⟦<Each as Alternatives>⟧.encodes };
+
+    ghost elements = { ⟦<Each as Alternatives>⟧.elements };
+
+    ghost may_allocate = { ⟦<Each as Alternatives>⟧.may_allocate };
+
+    ghost same = { ⟦<Each as Alternatives>⟧.same };
+
+    ghost encoding_under = { ⟦<Each as Alternatives>⟧.encoding_under };
+
+    ghost depth = { ⟦<Each as Alternatives>⟧.depth };
+
+    ghost can = { ⟦<Each as Alternatives>⟧.can };
+
+    ghost fits = { ⟦<Each as Alternatives>⟧.fits };
+
+    #[inline(always)]
+    fn has_tag(tag: Tag) -> bool {
+        <Each as Alternatives>::has_tag(tag)
+    }
+
+    #[inline(always)]
+    fn read_found(tag: Tag, reader: BERReader) -> ASN1Result<@RSides> {
+        <Each as Alternatives>::read_found(tag, reader)
+    }
+
+    #[inline(always)]
+    fn write(value: &@RSides, writer: DERWriter<'_>) -> ASN1Result<()> {
+        <Each as Alternatives>::write(value, writer)
+    }
+
+    #[inline(always)]
+    fn prepend(value: &@RSides, under: Option<Tag>, out: &mut PrependBuffer) -> ASN1Result<()> {
+        <Each as Alternatives>::prepend(value, under, out)
+    }
+
+    #[inline(always)]
+    fn encoded_len(value: &@RSides, under: Option<Tag>, mode: BERMode) -> Option<usize> {
+        <Each as Alternatives>::encoded_len(value, under, mode)
+    }
+
+    ghost laws = { λ _. @7 };
+
+    ghost non_empty = { @9 };
+}
+";
+
+/// The impl of alternatives of which what BER reads is written in DER.
+pub static CANONICAL_ALTERNATIVES_IMPL: &str = "
+impl CanonicalAlternatives for @R {
+    ghost written = { λ _. @8 };
+}
+";
+
 /// An enum of an ENUMERATED. `@I` is its variants, `@1` and `@2` the arms of its two functions, `@P` what the names of its specs begin with.
 pub static ENUMERATION: &str = "use yasna_notation_types::Numbered;
 

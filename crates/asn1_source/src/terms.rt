@@ -36,6 +36,8 @@ pub struct TypeName {
     pub is_enumeration: bool,
     /// Whether what BER reads of it is written in DER.
     pub is_canonical: bool,
+    /// Whether it is a CHOICE of which an alternative that this version doesn't know is a value.
+    pub is_open: bool,
 }
 
 /// The names of all types that a source may hold.

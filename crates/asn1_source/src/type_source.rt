@@ -1,11 +1,15 @@
 //! The sources of a type.
 
 use crate::alternatives::choice_of;
-use crate::choice_source::{set_choice, variants_of};
+use crate::alternatives_source;
+use crate::alternatives_source::{add_runs, set_second_file};
+use crate::choice_source::{run_size, set_choice, variants_of};
 use crate::enumeration_source::{enumeration_of, set_enumeration, specs_of};
+use crate::extension::tail_of;
 use crate::head::{ModuleSource, put_head, put_path};
 use crate::imports::{Words, put_clause_table, put_code_table};
 use crate::naming::{field_names, item_names, variant_names};
+use crate::parts::fields_of;
 use crate::parts_source::{first_run, put_rests};
 use crate::sequence_source::set_sequence;
 use crate::template::Fragments;
@@ -184,7 +188,7 @@ fn add_type(
 ) -> Result<(), AllocError> {
     let body = body_of(fragments, name.is_canonical);
     let mut text = Text::new(alloc);
-    put_head(alloc, source.modules, definition, &mut text);
+    put_head(alloc, source.modules, definition, name.is_open, &mut text);
     let mut more = Text::new(alloc);
     fragments.fill(clauses, &mut more);
     let mut lines = Text::new(alloc);
@@ -239,30 +243,30 @@ fn add_sequence(
     files: &mut Files,
 ) -> Result<(), AllocError> {
     let parts = components.parts.as_slice();
-    let fields = field_names(alloc, parts)?;
+    let field_names = field_names(alloc, parts)?;
+    let fields = fields_of(parts, field_names.as_slice(), tail_of(components));
     let mut fragments = begun(alloc, source, name, definition.path.as_slice());
-    let rest = put_rests(alloc, source, name, parts, fields.as_slice(), files)?;
+    let rest = put_rests(alloc, source, name, &fields, files)?;
     let has_rest = !rest.name.is_empty();
     fragments.set_octets(b'y', rest.file.as_slice());
     fragments.set_octets(b'Y', rest.name.as_slice());
     set_sequence(
         alloc,
         &mut fragments,
-        first_run(parts),
+        first_run(&fields),
         &rest,
-        parts,
-        fields.as_slice(),
+        &fields,
         tags,
         source.names,
     );
-    let clauses = rest_clauses(has_rest, name.is_canonical);
+    fragments.set_filled(b'e', rest_clauses(has_rest, name.is_canonical));
     add_type(
         alloc,
         source,
         definition,
         name,
         &mut fragments,
-        clauses,
+        "@e",
         rest_code(has_rest),
         files,
     )
@@ -270,9 +274,9 @@ fn add_sequence(
 
 // What a CHOICE brings in.
 const VARIANT_CLAUSES: &str =
-    "ghost use Rattle.std.specs.Prelude.{[]};\nghost use Rattle.@K.specs.declared.@y.@N.TheVariants.{@G};\n";
+    "ghost use Rattle.std.specs.Prelude.{[]};\nghost use Rattle.@K.specs.declared.@F.@N.TheVariants.{@G};\n";
 
-// Adds the file of a CHOICE.
+// Adds the files of a CHOICE.
 fn add_choice(
     alloc: Global,
     source: &CrateSource<'_, '_>,
@@ -282,20 +286,34 @@ fn add_choice(
     files: &mut Files,
 ) -> Result<(), AllocError> {
     let alternatives = choice.alternatives.as_slice();
-    let found = variant_names(alloc, alternatives)?;
+    let found = variant_names(alloc, alternatives, name.is_open)?;
     let variants = variants_of(alloc, found, name.name.as_slice(), source.names)?;
     let mut fragments = begun(alloc, source, name, definition.path.as_slice());
-    fragments.set_octets(b'y', name.file.as_slice());
-    let of = choice_of(alternatives, variants.as_slice(), name.name.as_slice());
-    set_choice(&mut fragments, &of, source.names);
+    fragments.set_octets(b'F', name.file.as_slice());
+    let of = choice_of(
+        alternatives,
+        variants.as_slice(),
+        name.name.as_slice(),
+        name.is_open,
+    );
+    let size = run_size(alternatives.len(), name.is_open);
+    set_second_file(&mut fragments, name, &of, size);
+    set_choice(&mut fragments, &of, size, source.names);
+    add_runs(alloc, source, name, &of, size, files)?;
+    let has_rest = alternatives.len() > size;
+    fragments.set_filled(b's', VARIANT_CLAUSES);
+    fragments.set_filled(
+        b'e',
+        alternatives_source::rest_clauses(has_rest, name.is_canonical),
+    );
     add_type(
         alloc,
         source,
         definition,
         name,
         &mut fragments,
-        VARIANT_CLAUSES,
-        "",
+        "@s@e",
+        alternatives_source::rest_code(has_rest),
         files,
     )
 }
@@ -351,7 +369,7 @@ fn add_enumeration(
     fragments.set_octets(b'F', name.file.as_slice());
     set_enumeration(&mut fragments, &of);
     let mut text = Text::new(alloc);
-    put_head(alloc, source.modules, definition, &mut text);
+    put_head(alloc, source.modules, definition, name.is_open, &mut text);
     fragments.fill(NUMBER_CLAUSES, &mut text);
     fragments.fill(ENUMERATION, &mut text);
     files.add("src/", name.file.as_slice(), ".rt", text)?;
@@ -414,6 +432,7 @@ fn untagged_name(alloc: Global, name: &TypeName) -> Result<TypeName, AllocError>
             law,
             is_enumeration: false,
             is_canonical: name.is_canonical,
+            is_open: name.is_open,
         }),
         _ => Err(AllocError),
     }

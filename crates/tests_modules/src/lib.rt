@@ -3,12 +3,15 @@
 //! | Module | Holds |
 //! |---|---|
 //! | `described` | resolved types, described in one line each |
+//! | `sources` | what `asn1_source` writes for types |
 //! | `syntax` | lexical items and trees of `asn1_syntax` |
 //! | `types` | what `asn1_types` resolves modules to |
 #![tactic(auto)]
 
 #[cfg(test)]
 mod described;
+#[cfg(test)]
+mod sources;
 #[cfg(test)]
 mod syntax;
 #[cfg(test)]

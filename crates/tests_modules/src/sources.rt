@@ -1,0 +1,158 @@
+//! What `asn1_source` writes for the types of modules.
+
+use asn1_source::{ModuleSource, list_of, names_of, reached, source_of, sources_of};
+use asn1_syntax::parse;
+use asn1_syntax::tree::Module;
+use asn1_types::model::Resolved;
+use asn1_types::resolve;
+use std::alloc::{AllocError, Global};
+use std::process::Abort;
+
+/// A module, a file of its crate, and lines in that file. The file `list` is a line for each type.
+type Row = (&'static [u8], &'static str, &'static str);
+
+// A CHOICE: why no encoding of an alternative that is EXPLICIT or a list is empty.
+static CHOICES: [Row; 1] = [(
+    b"M DEFINITIONS IMPLICIT TAGS ::= BEGIN Pick ::= CHOICE { flag [0] EXPLICIT BOOLEAN, names SEQUENCE OF UTF8String, size [1] INTEGER, none NULL } END",
+    "src/pick.rt",
+    "      | Flag x ↦ element_non_empty _ _ _ _\n      | Names x ↦ element_non_empty _ _ _ _\n      | Size x ↦ (big_non_empty (Some (tag_or u (context 1)))) m x\n      | NoneVariant ↦ (null_non_empty u) m tt\n    ] };\n",
+)];
+
+// An extensible CHOICE: open, but not where tags have to distinguish it from what follows.
+static OPEN_CHOICES: [Row; 3] = [
+    (
+        b"M DEFINITIONS ::= BEGIN Shape ::= CHOICE { number INTEGER, ..., flag BOOLEAN } Box ::= SEQUENCE { shape Shape } END",
+        "src/shape.rt",
+        "type Types = (BigInteger, (bool,));\n\ntype Sides = Either<Either<(Vec<u8>, bool), bool>, TaggedDerValue>;\n\ntype Notated = OpenChoice<Types>;\n",
+    ),
+    (
+        b"M DEFINITIONS ::= BEGIN Shape ::= CHOICE { number INTEGER, ... } END",
+        "src/shape.rt",
+        "            First(value) => Shape::Number(value),\n            Second(value) => Shape::Unknown(value),\n",
+    ),
+    (
+        b"M DEFINITIONS ::= BEGIN Shape ::= CHOICE { number INTEGER, ... } Box ::= SEQUENCE { shape Shape OPTIONAL, label UTF8String } END",
+        "src/shape.rt",
+        "//! An alternative that a later version may add is rejected.\n",
+    ),
+];
+
+// A CHOICE of ten alternatives, of which the last three are in a file of their own.
+static LONG_CHOICES: [Row; 3] = [
+    (
+        b"M DEFINITIONS AUTOMATIC TAGS ::= BEGIN Long ::= CHOICE { a NULL, b NULL, c NULL, d NULL, e NULL, f NULL, g NULL, h BOOLEAN, i NULL, j NULL } END",
+        "src/long.rt",
+        "            Second(Second(Second(Second(Second(Second(Second(rest))))))) => match rest {\n            First(value) => Long::H(value),\n",
+    ),
+    (
+        b"M DEFINITIONS AUTOMATIC TAGS ::= BEGIN Long ::= CHOICE { a NULL, b NULL, c NULL, d NULL, e NULL, f NULL, g NULL, h BOOLEAN, i NULL, j NULL } END",
+        "src/long_types2.rt",
+        "type Each = (Implicit<Context<7>, bool>, (Implicit<Context<8>, ()>, (Implicit<Context<9>, ()>,)));\n",
+    ),
+    (
+        b"M DEFINITIONS AUTOMATIC TAGS ::= BEGIN Nine ::= CHOICE { a NULL, b NULL, c NULL, d NULL, e NULL, f NULL, g NULL, h BOOLEAN, i NULL } END",
+        "src/nine.rt",
+        "            Second(Second(Second(Second(Second(Second(Second(Second(())))))))) => Nine::I,\n",
+    ),
+];
+
+// An extensible SEQUENCE: elements after mandatory parts, after others, and between parts.
+static SEQUENCES: [Row; 3] = [
+    (
+        b"M DEFINITIONS ::= BEGIN Head ::= SEQUENCE { version INTEGER (0..9), ... } END",
+        "src/head.rt",
+        "type Parts = (Bounded<u64, AtMost<9>>, Rest<TaggedDerValue>);\n",
+    ),
+    (
+        b"M DEFINITIONS IMPLICIT TAGS ::= BEGIN Head ::= SEQUENCE { id NULL, flag BOOLEAN DEFAULT FALSE, ..., [[ name [0] UTF8String ]] } END",
+        "src/head.rt",
+        "type Omitted = Choice<(bool, (Implicit<Context<0>, String>,))>;\n\ntype Parts = ((), PossibleDefault<bool, False, Possible<Implicit<Context<0>, String>, Others<Omitted>>>);\n",
+    ),
+    (
+        b"M DEFINITIONS ::= BEGIN Head ::= SEQUENCE { id NULL, ..., ..., name UTF8String } END",
+        "src/head.rt",
+        "//! An element that a later version may add is rejected.\n",
+    ),
+];
+
+// Whether a text is in another one.
+fn holds(text: &[u8], part: &[u8]) -> bool {
+    for start in 0..text.len() {
+        match text.get(start..) {
+            Some(rest) if rest.starts_with(part) => return true,
+            _ => {}
+        }
+    }
+    false
+}
+
+// Whether a file of the crate of resolved modules has some lines.
+fn has_lines<'a>(
+    alloc: Global,
+    source: &'a [u8],
+    modules: &'a [Module<'a>],
+    resolved: &Resolved<'a>,
+    file: &str,
+    lines: &str,
+) -> Result<bool, AllocError> {
+    let definitions = resolved.definitions.as_slice();
+    let names = names_of(alloc, definitions, Vec::new(alloc))?;
+    let wanted = reached(alloc, definitions, None)?;
+    let mut sources = Vec::new(alloc);
+    for tree in modules {
+        sources.push(ModuleSource { source, tree })?;
+    }
+    let of = source_of(
+        b"sample",
+        sources.as_slice(),
+        definitions,
+        &names,
+        wanted.as_slice(),
+        resolved.constants.as_slice(),
+    );
+    if file == "list" {
+        return Ok(holds(list_of(alloc, &of).as_slice(), lines.as_bytes()));
+    }
+    for one in sources_of(alloc, &of)? {
+        if one.path.as_slice() == file.as_bytes() {
+            return Ok(holds(one.text.as_slice(), lines.as_bytes()));
+        }
+    }
+    Ok(false)
+}
+
+// Whether a file of the crate of a source has some lines. Its modules are never freed, since they are lent for as long as it is.
+fn is_written<'a>(alloc: Global, source: &'a [u8], file: &str, lines: &str) -> bool {
+    let Ok(modules) = parse(alloc, source) else {
+        return false;
+    };
+    let modules = modules.leak();
+    match resolve(alloc, modules, &[]) {
+        Ok(resolved) => {
+            has_lines(alloc, source, modules, &resolved, file, lines).unwrap_or(false)
+        }
+        Err(_) => false,
+    }
+}
+
+// The lines of the first row that aren't in its file.
+fn first_missing(alloc: Global, rows: &'static [Row]) -> Option<&'static str> {
+    for (source, file, lines) in rows {
+        if !is_written(alloc, source, file, lines) {
+            return Some(lines);
+        }
+    }
+    None
+}
+
+#[test]
+fn choices_are_written(rt: HostRuntime) {
+    assert!(rt; first_missing(rt.alloc(), &CHOICES).is_none());
+    assert!(rt; first_missing(rt.alloc(), &OPEN_CHOICES).is_none());
+    assert!(rt; first_missing(rt.alloc(), &LONG_CHOICES).is_none());
+}
+
+#[test]
+fn sequences_are_written(rt: HostRuntime) {
+    assert!(rt; first_missing(rt.alloc(), &SEQUENCES).is_none());
+}
