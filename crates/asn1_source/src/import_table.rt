@@ -86,7 +86,7 @@ pub static CODE_IMPORTS: &str = "\
 yasna::models: GeneralizedTime ObjectIdentifier TaggedDerValue UTCTime
 yasna: ASN1Result BERMode BERReader BERReaderSeq DERWriter DERWriterSeq PrependBuffer Tag
 yasna_notation::Either: First Second
-yasna_notation: Alternatives Application AtMost BigInteger BitString Bounded CanonicalAlternatives CanonicalNotation CanonicalParts Choice Context Default Either
+yasna_notation: Alternatives Application AtMost BigInteger BitString Bounded CanonicalAlternatives CanonicalNotation CanonicalParts Choice Context Default DefaultValue Either
 yasna_notation: Enumerated Exactly Explicit False FromTo Ia5String Implicit Last Message NotEmpty Notation NumericString Optional
 yasna_notation: PartsBy>Parts PartsBy PrintableString Represents Sequence SequenceOf SetOf VisibleString read_as
 yasna_notation_constraints: IntegerFrom IntegerFromTo IntegerUpTo Natural Signed SizeFrom SizeFromTo SizeIs True Unset

@@ -126,6 +126,7 @@ fn name_of(alloc: Global, known: &Known) -> Result<TypeName, AllocError> {
         origin: Some(origin),
         law,
         is_enumeration: false,
+        tags: Vec::new(alloc),
         is_canonical: false,
         is_open: false,
     })

@@ -14,6 +14,7 @@ mod forms;
 mod head;
 mod import_table;
 mod imports;
+mod item_defaults;
 mod known;
 mod naming;
 mod open_choices;

@@ -131,12 +131,14 @@ impl UsedNames {
         let name = self.take_type(definition.path.as_slice())?;
         let file = self.take_file(definition.path.as_slice())?;
         let law = Vec::from_slice(self.alloc, file.as_slice())?;
+        let tags = Vec::from_slice(self.alloc, definition.tags.as_slice())?;
         Ok(TypeName {
             name,
             file,
             origin: None,
             law,
             is_enumeration: is_enumeration(&definition.body),
+            tags,
             is_canonical: false,
             is_open: false,
         })

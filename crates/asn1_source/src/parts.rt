@@ -8,12 +8,14 @@
 //! | `@u` | the name of the field of the elements that this version doesn't know |
 //! | `@D` | the type of its default |
 //! | `@I`, `@E`, `@T` | the test for the default, the default, and the term that the test detects it, in clauses |
+//! | `@S` | the term that values that equal the default are detected alike |
 
-use crate::defaults::{default_shape, default_texts};
+use crate::defaults::{default_shape, default_texts, untagged};
 use crate::extension::put_tail_law;
 use crate::terms::{Aspect, TypeNames, put_notation, put_shaped};
 use crate::text::Text;
-use asn1_types::model::{Notation, Part, Presence};
+use crate::words::put_camel;
+use asn1_types::model::{DefaultValue, Notation, Part, Presence};
 
 /// How parts are listed in some place.
 pub struct Listing {
@@ -172,7 +174,7 @@ pub static LAW: Listing = Listing {
 pub static WRITTEN: Listing = Listing {
     required: "(part_written @W.own ",
     optional: "(optional_written @W.own ",
-    default: "(part_written (default_written @I (default_alike @I @E @T equal_same) @W.own) ",
+    default: "(part_written (default_written @I (default_alike @I @E @T @S) @W.own) ",
     last: "(last_part_writes @W.own)",
     end: "no_part_written",
     close: ")",
@@ -295,17 +297,61 @@ fn listed(listing: &'static Listing, part: &Part<'_>, is_tail: bool) -> &'static
     }
 }
 
+/// Appends the name of the type of the default of a field, whose values are those of an ENUMERATED.
+pub fn put_default_name(field: &[u8], out: &mut Text) {
+    put_camel(field, out);
+    out.say("Default");
+}
+
+// Appends a text of a default.
+fn put_default_text(
+    text: &str,
+    field: &Field<'_, '_>,
+    value: &DefaultValue<'_>,
+    names: &TypeNames,
+    out: &mut Text,
+) {
+    let mut shaped = out.another();
+    put_shaped(text, default_shape(value), &mut shaped);
+    for octet in shaped.as_slice() {
+        match *octet {
+            b'&' => put_default_name(field.name, out),
+            b'$' => {
+                if let Some(name) = names.named(untagged(&field.part.notation)) {
+                    out.put(name.law.as_slice());
+                }
+            }
+            other => out.put_octet(other),
+        }
+    }
+    if shaped.is_cut() {
+        out.cut();
+    }
+}
+
+// Appends the term that values that equal a default are detected alike.
+fn put_same(text: &str, field: &Field<'_, '_>, names: &TypeNames, out: &mut Text) {
+    match text.split_once("@L") {
+        Some((_, after)) => {
+            put_notation(&field.part.notation, Aspect::Law, true, names, out);
+            out.say(after);
+        }
+        None => out.say(text),
+    }
+}
+
 // Appends what a mark of a default represents.
-fn put_default(mark: u8, part: &Part<'_>, out: &mut Text) {
-    if let Presence::Default(value) = &part.presence {
-        let texts = default_texts(&part.notation, value);
-        let text = match mark {
-            b'D' => texts.name,
-            b'I' => texts.test,
-            b'E' => texts.value,
-            _ => texts.detects,
-        };
-        put_shaped(text, default_shape(value), out);
+fn put_default(mark: u8, field: &Field<'_, '_>, names: &TypeNames, out: &mut Text) {
+    let Presence::Default(value) = &field.part.presence else {
+        return;
+    };
+    let texts = default_texts(&field.part.notation, value);
+    match mark {
+        b'D' => put_default_text(texts.name, field, value, names, out),
+        b'I' => put_default_text(texts.test, field, value, names, out),
+        b'E' => put_default_text(texts.value, field, value, names, out),
+        b'T' => put_default_text(texts.detects, field, value, names, out),
+        _ => put_same(texts.same, field, names, out),
     }
 }
 
@@ -319,7 +365,7 @@ pub fn put_mark(mark: u8, field: &Field<'_, '_>, names: &TypeNames, out: &mut Te
         b'L' => put_notation(&part.notation, Aspect::Law, is_default, names, out),
         b'W' => put_notation(&part.notation, Aspect::Written, is_default, names, out),
         b'f' => out.put(field.name),
-        _ => put_default(mark, part, out),
+        _ => put_default(mark, field, names, out),
     }
 }
 

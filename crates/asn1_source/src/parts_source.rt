@@ -1,5 +1,6 @@
 //! The sources of the parts of a long SEQUENCE: those after the first ones have a file and a name of their own.
 
+use crate::item_defaults::set_item_defaults;
 use crate::open_choices::may_be_absent;
 use crate::parts::{Fields, HELD};
 use crate::sequence_source::{RestName, first_of, set_all, set_references, set_run_texts};
@@ -74,7 +75,7 @@ fn rest_source(
     rest: &RestName,
     count: usize,
     fields: &Fields<'_, '_>,
-) -> Text {
+) -> Result<Text, AllocError> {
     let mut fragments = Fragments::new(alloc);
     fragments.set_octets(b'K', source.krate);
     fragments.set_octets(b'R', own.name.as_slice());
@@ -85,6 +86,7 @@ fn rest_source(
     set_run_texts(alloc, &mut fragments, &first, rest, source.names);
     set_references(&mut fragments, b'E', &first, rest, "*value", source.names);
     set_all(&mut fragments, b'H', &HELD, fields, source.names);
+    set_item_defaults(alloc, &mut fragments, source, &first)?;
     fragments.set_filled(b'V', "@U");
     fragments.set_term(b'7', "@Q", 25);
     fragments.set_term(b'8', "@X", 25);
@@ -105,8 +107,10 @@ fn finished(
     if whole.is_canonical {
         fragments.fill(CANONICAL_PARTS_IMPL, &mut body);
     }
+    body.put(fragments.get(b'd'));
     let mut clauses = Text::new(alloc);
     fragments.fill(rest_clauses(has_rest, whole.is_canonical), &mut clauses);
+    clauses.put(fragments.get(b'j'));
     let mut code = Text::new(alloc);
     fragments.fill(rest_code(has_rest), &mut code);
     let mut text = Text::new(alloc);
@@ -163,7 +167,7 @@ fn add_rest(
     files: &mut Files,
 ) -> Result<RestName, AllocError> {
     let own = name_of_rest(alloc, whole, number)?;
-    let text = rest_source(alloc, source, whole, &own, rest, count, fields);
+    let text = rest_source(alloc, source, whole, &own, rest, count, fields)?;
     files.add("src/", own.file.as_slice(), ".rt", text)?;
     Ok(own)
 }

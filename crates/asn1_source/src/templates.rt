@@ -300,7 +300,7 @@ impl CanonicalAlternatives for @R {
 /// An enum of an ENUMERATED. `@I` is its variants, `@1` and `@2` the arms of its two functions, `@P` what the names of its specs begin with.
 pub static ENUMERATION: &str = "use yasna_notation_types::Numbered;
 
-/// `@A`.
+/// `@a`.
 #[derive(Clone, Copy)]
 pub enum @N {
 @I}
@@ -324,10 +324,49 @@ impl Numbered for @N {
 
     ghost writable = { @P_writable };
 }
+
+impl PartialEq for @N {
+    ghost eq = { on @P_number int_eq };
+
+    ghost laws = { partial_equiv_from_equiv (on_equiv @P_number int_eq_equiv) };
+
+    fn eq(&self, other: &@N) -> bool {
+        self.number() == other.number()
+    }
+}
+
+impl Eq for @N {
+    ghost laws = { on_equiv @P_number int_eq_equiv };
+}
 ";
 
+/// The type of a default of an ENUMERATED. `@i` is the item, `@X` the type, `@B` the notation, `@C` the enum, `@v` the variant, `@P` what the names of
+/// the specs begin with, `@n` the number in clauses.
+pub static ITEM_DEFAULT: &str = "
+/// `DEFAULT @i`.
+pub struct @X;
+
+impl DefaultValue<@B> for @X {
+    ghost default = { @XValue };
+
+    ghost is = { λ v. int_eq (@P_number v) @n };
+
+    fn default() -> @C {
+        @C::@v
+    }
+
+    ghost detects = { λ v. detects_integer @n (@P_number v) };
+
+    ghost tests = { λ v. refl };
+}
+";
+
+/// What the source of such a default brings in.
+pub static ITEM_CLAUSES: &str =
+    "ghost use Rattle.@K.specs.declared.@F.@C.TheVariants.{@v as @XValue};\n";
+
 /// The specs of an enum. `@K` is its crate, `@F` its file, `@G` its variants, `@3` and `@4` the lines of a clause for each, `@5` its numbers.
-pub static ENUMERATION_SPECS: &str = "-- The numbers of `@A`.
+pub static ENUMERATION_SPECS: &str = "-- The numbers of `@a`.
 use Rattle.std.proofs.Common.{◌≡◌, ◌∷◌, [], ℤ, List, Bool, true, pos, negsuc, refl, FitsSigned, arith}
 use Rattle.std.specs.Prelude.{◌↔◌}
 use Rattle.std.specs.Int.{w64}
@@ -351,7 +390,7 @@ pub @P_writable : (v : @N) → @P_allowed v ↔ (FitsSigned w64 (@P_number v) ×
 @4";
 
 /// The specs of an extensible enum, whose last variant has any other number.
-pub static OPEN_ENUMERATION_SPECS: &str = "-- The numbers of `@A`.
+pub static OPEN_ENUMERATION_SPECS: &str = "-- The numbers of `@a`.
 use Rattle.std.proofs.Common.{◌≡◌, ℤ, Bool, true, pos, negsuc, refl, FitsSigned}
 use Rattle.std.specs.Prelude.{◌↔◌}
 use Rattle.std.specs.Int.{w64}

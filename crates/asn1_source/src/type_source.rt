@@ -8,6 +8,7 @@ use crate::enumeration_source::{enumeration_of, set_enumeration, specs_of};
 use crate::extension::tail_of;
 use crate::head::{ModuleSource, put_head, put_path};
 use crate::imports::{Words, put_clause_table, put_code_table};
+use crate::item_defaults::set_item_defaults;
 use crate::naming::{field_names, item_names, variant_names};
 use crate::parts::fields_of;
 use crate::parts_source::{first_run, put_rests};
@@ -147,6 +148,7 @@ fn body_of(fragments: &mut Fragments, is_canonical: bool) -> Text {
         fragments.fill(CANONICAL_IMPL, &mut body);
     }
     fragments.fill(CHECKED_IMPL, &mut body);
+    body.put(fragments.get(b'd'));
     body
 }
 
@@ -250,15 +252,10 @@ fn add_sequence(
     let has_rest = !rest.name.is_empty();
     fragments.set_octets(b'y', rest.file.as_slice());
     fragments.set_octets(b'Y', rest.name.as_slice());
-    set_sequence(
-        alloc,
-        &mut fragments,
-        first_run(&fields),
-        &rest,
-        &fields,
-        tags,
-        source.names,
-    );
+    let count = first_run(&fields);
+    let names = source.names;
+    set_sequence(alloc, &mut fragments, count, &rest, &fields, tags, names);
+    set_item_defaults(alloc, &mut fragments, source, &fields.first(count))?;
     fragments.set_filled(b'e', rest_clauses(has_rest, name.is_canonical));
     add_type(
         alloc,
@@ -266,7 +263,7 @@ fn add_sequence(
         definition,
         name,
         &mut fragments,
-        "@e",
+        "@e@j",
         rest_code(has_rest),
         files,
     )
@@ -342,7 +339,7 @@ fn add_value(
 }
 
 const NUMBER_CLAUSES: &str =
-    "ghost use Rattle.@K.specs.@N.{@P_number, @P_named, @P_allowed, @P_writable};\n\n";
+    "ghost use Rattle.std.specs.Ordering.{on, int_eq};\nghost use Rattle.std.specs.Cmp.{partial_equiv_from_equiv};\nghost use Rattle.std.proofs.lemmas.Cmp.{on_equiv, int_eq_equiv};\nghost use Rattle.@K.specs.@N.{@P_number, @P_named, @P_allowed, @P_writable};\n\n";
 
 // Adds the file of an ENUMERATED, and that of its specs.
 fn add_enumeration(
@@ -431,6 +428,7 @@ fn untagged_name(alloc: Global, name: &TypeName) -> Result<TypeName, AllocError>
             origin: None,
             law,
             is_enumeration: false,
+            tags: Vec::new(alloc),
             is_canonical: name.is_canonical,
             is_open: name.is_open,
         }),

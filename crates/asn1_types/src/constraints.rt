@@ -1,7 +1,7 @@
 //! Constraints of numbers and sizes (X.680, 49 to 51).
 
 use crate::integers::{UNBOUNDED, both_bounds, both_sizes, hull, joins, size_of};
-use crate::model::{Integer, IntegerBounds, Loosening, Notation, Size};
+use crate::model::{Integer, IntegerBounds, Loosening, Notation, Size, TextKind};
 use crate::scope::Scope;
 use crate::tokens::{NamedItems, halves_around, has_text, is, named_items, next_item};
 use crate::values::{integer_value, item_number};
@@ -246,13 +246,16 @@ pub fn constrain_list<'a>(
     }
 }
 
-/// Adds a constraint to a notation, and says whether the notation accepts more.
+/// Adds a constraint to a notation, and says whether the notation accepts more. Sizes of named bits and of a BMPString aren't tested.
 pub fn constrain<'a>(names: Names<'a>, notation: &mut Notation, tokens: &'a [Token<'a>]) -> bool {
     match notation {
         Notation::Integer(bounds) => constrain_numbers(names, bounds, tokens),
+        Notation::NamedBits(size) | Notation::Text(TextKind::Bmp, size) => {
+            let _ = constrain_size(names, size, tokens);
+            true
+        }
         Notation::OctetString(size)
         | Notation::BitString(size)
-        | Notation::NamedBits(size)
         | Notation::Text(_, size)
         | Notation::SequenceOf(_, size)
         | Notation::SetOf(_, size) => constrain_size(names, size, tokens),

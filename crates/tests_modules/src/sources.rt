@@ -75,6 +75,30 @@ static SEQUENCES: [Row; 3] = [
     ),
 ];
 
+// An ENUMERATED: its tags, a DEFAULT, and the size of a BMPString, which isn't tested.
+static VALUES: [Row; 4] = [
+    (
+        b"M DEFINITIONS ::= BEGIN Speed ::= [APPLICATION 1] IMPLICIT ENUMERATED { off, slow } Motor ::= SEQUENCE { speed Speed } END",
+        "src/motor.rt",
+        "type Parts = (Implicit<Application<1>, Named<Speed>>, ());\n",
+    ),
+    (
+        b"M DEFINITIONS ::= BEGIN Speed ::= ENUMERATED { off, slow } Motor ::= SEQUENCE { speed Speed DEFAULT slow } END",
+        "src/motor.rt",
+        "type Parts = (Default<Named<Speed>, SpeedDefault>, ());\n",
+    ),
+    (
+        b"M DEFINITIONS ::= BEGIN Speed ::= ENUMERATED { off, slow } Motor ::= SEQUENCE { speed Speed DEFAULT slow } END",
+        "src/motor.rt",
+        "    fn default() -> Speed {\n        Speed::Slow\n    }\n",
+    ),
+    (
+        b"M DEFINITIONS ::= BEGIN Name ::= SEQUENCE { text BMPString (SIZE (1..8)) } END",
+        "list",
+        "Name: accepts more, canonical\n",
+    ),
+];
+
 // Whether a text is in another one.
 fn holds(text: &[u8], part: &[u8]) -> bool {
     for start in 0..text.len() {
@@ -155,4 +179,9 @@ fn choices_are_written(rt: HostRuntime) {
 #[test]
 fn sequences_are_written(rt: HostRuntime) {
     assert!(rt; first_missing(rt.alloc(), &SEQUENCES).is_none());
+}
+
+#[test]
+fn enumerations_are_written(rt: HostRuntime) {
+    assert!(rt; first_missing(rt.alloc(), &VALUES).is_none());
 }
