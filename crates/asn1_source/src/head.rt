@@ -34,10 +34,13 @@ fn start_of(module: ModuleSource<'_>, assignment: usize) -> usize {
     }
 }
 
-// The offset where the last lexical item before an offset ends, but for a last END.
-fn end_before(tokens: &[Token<'_>], limit: usize) -> usize {
-    let mut end = 0usize;
+// The offset where the last lexical item between two offsets ends, but for a last END.
+fn end_between(tokens: &[Token<'_>], start: usize, limit: usize) -> usize {
+    let mut end = start;
     for token in tokens {
+        if token.offset < start {
+            continue;
+        }
         if token.offset >= limit || token.text == b"END".as_slice() {
             break;
         }
@@ -53,7 +56,7 @@ fn assignment_text<'a>(alloc: Global, module: ModuleSource<'a>, assignment: usiz
     let Ok(tokens) = lex(alloc, module.source) else {
         return b"";
     };
-    let end = end_before(tokens.as_slice(), limit);
+    let end = end_between(tokens.as_slice(), start, limit);
     match module.source.get(start..end) {
         Some(text) => text,
         None => b"",

@@ -76,7 +76,12 @@ static SEQUENCES: [Row; 3] = [
 ];
 
 // An ENUMERATED: its tags, a DEFAULT, and the size of a BMPString, which isn't tested.
-static VALUES: [Row; 4] = [
+static VALUES: [Row; 5] = [
+    (
+        b"L DEFINITIONS ::= BEGIN END M DEFINITIONS ::= BEGIN Speed ::= ENUMERATED { off, slow } END",
+        "src/speed.rt",
+        "//! Speed ::= ENUMERATED { off, slow }\n//! ```\n",
+    ),
     (
         b"M DEFINITIONS ::= BEGIN Speed ::= [APPLICATION 1] IMPLICIT ENUMERATED { off, slow } Motor ::= SEQUENCE { speed Speed } END",
         "src/motor.rt",
