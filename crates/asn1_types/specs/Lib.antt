@@ -1,2 +1,4 @@
 pub mod Tags
+pub mod Trees
+pub mod Numbers
 pub mod Presence

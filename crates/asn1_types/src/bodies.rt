@@ -1,10 +1,13 @@
 //! The tags, the parts and the bodies of SEQUENCEs, SETs and CHOICEs.
-ghost use Rattle.std.specs.Prelude.{IfOk};
+ghost use Rattle.std.specs.Prelude.{◌≡◌, IfOk, map};
+ghost use Rattle.std.specs.List.{enumerate_from};
+ghost use Rattle.asn1_types.specs.Numbers.{AreNumbers, has_own_tag, is_added, number_at};
 ghost use Rattle.asn1_types.specs.Presence.{KeepsPresence};
+ghost use Rattle.asn1_types.specs.Tags.{environment_of};
 
 use crate::components::{WrittenPart, WrittenParts};
 use crate::constraints::loosening_of;
-use crate::cores::{TypeAt, unconstrained};
+use crate::cores::{TypeAt, is_tagged};
 use crate::defaults::default_value;
 use crate::model::{
     Alternative, Alternatives, Body, Components, Loosening, Notation, Part, Place, Presence,
@@ -18,11 +21,7 @@ use crate::tags_of_types::{Distinction, check_tags};
 use crate::tokens::is;
 use asn1_syntax::Token;
 use asn1_syntax::tree::{Presence as WrittenPresence, TypeNotation};
-
-// Whether a type is written with a tag.
-fn is_tagged<'a>(notation: &'a TypeNotation<'a>) -> bool {
-    matches!(unconstrained(notation), TypeNotation::Tagged(_, _))
-}
+use std::alloc::{AllocError, Global};
 
 /// The layers of the tags before a type, outermost first.
 pub fn layers<'a>(
@@ -79,54 +78,71 @@ fn is_extensible(r: &Resolver<'_>, module: usize) -> bool {
     }
 }
 
-// Whether a type is written with a tag.
-fn has_tag(part: &WrittenPart<'_>) -> bool {
-    part.is_own && matches!(unconstrained(part.notation), TypeNotation::Tagged(_, _))
+// Whether a part is written with a tag in these braces.
+fn has_tag(part: &WrittenPart<'_>) -> bool
+    ensures { result ≡ has_own_tag part.now }
+{
+    part.is_own && is_tagged(part.notation)
 }
 
 // For each part, whether it is written with a tag in these braces.
-fn tagged_parts(r: &Resolver<'_>, parts: &[WrittenPart<'_>]) -> Result<Vec<bool>, Stop> {
-    let mut flags = Vec::new(r.alloc);
-    for part in parts {
-        flags.push(has_tag(part))?;
-    }
-    Ok(flags)
+fn tagged_parts(alloc: Global, parts: &[WrittenPart<'_>]) -> Result<Vec<bool>, AllocError>
+    ensures { IfOk result (λ flags. flags.items ≡ map has_own_tag parts.now) }
+{
+    parts.iter().map(|part| has_tag(part)).collect(alloc)
 }
 
 // For each part, whether it is an addition.
-fn additions(r: &Resolver<'_>, parts: &[WrittenPart<'_>]) -> Result<Vec<bool>, Stop> {
-    let mut flags = Vec::new(r.alloc);
-    for part in parts {
-        flags.push(part.is_addition)?;
-    }
-    Ok(flags)
+fn additions(alloc: Global, parts: &[WrittenPart<'_>]) -> Result<Vec<bool>, AllocError>
+    ensures { IfOk result (λ flags. flags.items ≡ map is_added parts.now) }
+{
+    parts.iter().map(|part| part.is_addition).collect(alloc)
 }
 
-// The number of the automatic tag of the part at an index.
-fn number_at(additions: &[bool], index: usize, is_addition: bool) -> usize {
-    if index > additions.len() {
-        return index;
+// The number of the automatic tag of the part at an index, if parts are tagged automatically.
+fn number_at(
+    is_automatic: bool,
+    additions: &[bool],
+    index: usize,
+    part: &WrittenPart<'_>,
+) -> Option<usize>
+    ensures { result ≡ number_at is_automatic additions.now (index, part.now) }
+{
+    if !is_automatic {
+        return None;
     }
-    automatic_number(&additions[..index], additions, is_addition)
+    let before = &additions[..index.min(additions.len())];
+    Some(automatic_number(before, additions, part.is_addition))
 }
 
-/// The numbers of the automatic tags of parts, if they are tagged automatically.
+// The numbers of the automatic tags of parts, of which of them are additions, and whether they are tagged automatically.
+fn numbers_among(
+    alloc: Global,
+    parts: &[WrittenPart<'_>],
+    additions: &[bool],
+    is_automatic: bool,
+) -> Result<Vec<Option<usize>>, AllocError>
+    ensures { IfOk result (λ numbers. numbers.items ≡ map (number_at is_automatic additions.now) (enumerate_from 0 parts.now)) }
+{
+    parts
+        .iter()
+        .enumerate()
+        .map(|(index, part)| number_at(is_automatic, additions, index, part))
+        .collect(alloc)
+}
+
+/// The numbers of the automatic tags of parts, if they are tagged automatically (X.680, 24.2 and 24.7).
 pub fn numbers_of(
     r: &Resolver<'_>,
     module: usize,
     parts: &[WrittenPart<'_>],
-) -> Result<Vec<Option<usize>>, Stop> {
-    let tagged = tagged_parts(r, parts)?;
-    let is_addition = additions(r, parts)?;
+) -> Result<Vec<Option<usize>>, Stop>
+    ensures { IfOk result (λ numbers. AreNumbers (environment_of r.now.scope.modules.now «module») parts.now numbers.items) }
+{
+    let tagged = tagged_parts(r.alloc, parts)?;
+    let is_addition = additions(r.alloc, parts)?;
     let is_automatic = is_tagged_automatically(environment(r, module), tagged.as_slice());
-    let mut numbers = Vec::new(r.alloc);
-    for (index, part) in parts.iter().enumerate() {
-        numbers.push(if is_automatic {
-            Some(number_at(is_addition.as_slice(), index, part.is_addition))
-        } else {
-            None
-        })?;
-    }
+    let numbers = numbers_among(r.alloc, parts, is_addition.as_slice(), is_automatic)?;
     Ok(numbers)
 }
 

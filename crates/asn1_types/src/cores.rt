@@ -1,4 +1,6 @@
 //! The type that a name means, through names, tags and constraints.
+ghost use Rattle.std.specs.Prelude.{◌≡◌};
+ghost use Rattle.asn1_types.specs.Trees.{has_tag_before};
 
 use crate::builtins::builtin_of;
 use crate::model::Place;
@@ -20,6 +22,21 @@ pub struct TypeAt<'a> {
     pub module: usize,
     /// The type.
     pub notation: &'a TypeNotation<'a>,
+}
+
+/// Whether a type is written with a tag.
+#[tactic(auto, using(crate::proofs::TagsBefore::tag_at_tagged, crate::proofs::TagsBefore::tag_at_constrained, crate::proofs::TagsBefore::tag_at_plain, crate::proofs::TagsBefore::tag_at_selected, crate::proofs::TagsBefore::tag_at_list, crate::proofs::TagsBefore::tag_at_constructed))]
+pub fn is_tagged<'a>(notation: &'a TypeNotation<'a>) -> bool
+    ensures { result ≡ has_tag_before notation.now }
+{
+    match notation {
+        TypeNotation::Tagged(_, _) => true,
+        TypeNotation::Constrained(inner, _) => is_tagged(inner),
+        TypeNotation::Plain(_) => false,
+        TypeNotation::Selected(_, _) => false,
+        TypeNotation::ListOf(_, _) => false,
+        TypeNotation::Constructed(_, _) => false,
+    }
 }
 
 /// A type without the constraints after it.

@@ -1,8 +1,18 @@
 //! The types of ASN.1 modules, resolved (X.680): names, values, tags, bounds and defaults.
 //!
-//! Proved are the functions of `tags`: whether a tag is EXPLICIT or IMPLICIT (30.6), when parts are tagged automatically (24.2 and 28.2), and by
-//! which numbers (24.7), as `specs/Tags.antt` says. So are two facts: what may be absent still may be, and the module of an import is the one after
-//! FROM. That the resolver asks them for each type, and what else names, values and constraints are resolved to, is only tested.
+//! Proved of X.680, as `specs/` says, are:
+//!
+//! - the functions of `tags`: whether a tag is EXPLICIT or IMPLICIT (30.6), when parts are tagged automatically (24.2 and 28.2), and by which numbers
+//!   (24.7);
+//! - one tag that is written (`plain::layer`): its class and its mode, by its words, the TagDefault of its module, and whether the type under it is
+//!   untagged, which is passed;
+//! - the numbers of the parts in one pair of braces (`bodies::numbers_of`): whether these are tagged automatically, and the number of each. The parts
+//!   of COMPONENTS OF get numbers too, but their own tags don't count;
+//! - that what may be absent still may be;
+//! - that the module of an import is the one after FROM.
+//!
+//! Only tested are: that these are called for each type and each part; the number of a tag, and whether a type is untagged; what COMPONENTS OF adds
+//! to a list; and what names, values and constraints are resolved to.
 //!
 //! | Module | Holds |
 //! |---|---|

@@ -1,4 +1,6 @@
 //! Types in which no other type is, tags, and constraints of a notation.
+ghost use Rattle.std.specs.Prelude.{◌≡◌, IfOk};
+ghost use Rattle.asn1_types.specs.Tags.{IsTagOf, class_named, class_written, environment_of, mode_named, mode_written};
 
 use crate::builtins::Builtin;
 use crate::constraints::{Names, constrain, constrain_list, loosening_of};
@@ -10,7 +12,7 @@ use crate::resolver::{Resolver, environment, note};
 use crate::scope::Scope;
 use crate::tags::{automatic_layer, tag_layer};
 use crate::tags_of_types::is_untagged;
-use crate::tokens::is;
+use crate::tokens::{is, is_word};
 use crate::values::number_of;
 use asn1_syntax::Token;
 use asn1_syntax::tree::{ListSize, PlainType, TagNotation, TypeNotation};
@@ -73,31 +75,53 @@ pub fn at(module: usize, token: Token<'_>) -> Place {
     }
 }
 
+// The class of a word before the number of a tag.
+fn class_named(word: Token<'_>) -> TagClass
+    ensures { result ≡ class_named word.entry }
+{
+    if is_word(word, b"APPLICATION") {
+        return TagClass::Application;
+    }
+    if is_word(word, b"PRIVATE") {
+        return TagClass::Private;
+    }
+    TagClass::Universal
+}
+
 // The class of a tag.
-fn class_of(tag: &TagNotation<'_>) -> TagClass {
+fn class_of(tag: &TagNotation<'_>) -> TagClass
+    ensures { result ≡ class_written tag.now.class }
+{
     match tag.class {
         None => TagClass::ContextSpecific,
-        Some(word) if is(word, b"APPLICATION") => TagClass::Application,
-        Some(word) if is(word, b"PRIVATE") => TagClass::Private,
-        Some(_) => TagClass::Universal,
+        Some(word) => class_named(word),
     }
 }
 
+// The mode of a word after a tag.
+fn mode_named(word: Token<'_>) -> TagMode
+    ensures { result ≡ mode_named word.entry }
+{
+    if is_word(word, b"IMPLICIT") {
+        return TagMode::Implicit;
+    }
+    TagMode::Explicit
+}
+
 // The word IMPLICIT or EXPLICIT of a tag.
-fn written_mode(tag: &TagNotation<'_>) -> Option<TagMode> {
+fn written_mode(tag: &TagNotation<'_>) -> Option<TagMode>
+    ensures { result ≡ mode_written tag.now.mode }
+{
     match tag.mode {
         None => None,
-        Some(word) if is(word, b"IMPLICIT") => Some(TagMode::Implicit),
-        Some(_) => Some(TagMode::Explicit),
+        Some(word) => Some(mode_named(word)),
     }
 }
 
 // The class and the number of a tag.
-fn tag_number<'a>(
-    scope: Scope<'a>,
-    module: usize,
-    tag: &'a TagNotation<'a>,
-) -> Result<Tag, Problem> {
+fn tag_number<'a>(scope: Scope<'a>, module: usize, tag: &'a TagNotation<'a>) -> Result<Tag, Problem>
+    ensures { IfOk result (λ t. t.class ≡ class_written tag.now.class) }
+{
     let number = number_of(scope, module, tag.number)?;
     if number.is_negative {
         return Err(problem_at(module, tag.number, ProblemKind::TagNumber));
@@ -114,7 +138,9 @@ pub fn layer<'a>(
     module: usize,
     tag: &'a TagNotation<'a>,
     is_untagged: bool,
-) -> Result<TagLayer, Problem> {
+) -> Result<TagLayer, Problem>
+    ensures { IfOk result (IsTagOf (environment_of r.now.scope.modules.now «module») tag.now is_untagged) }
+{
     let number = tag_number(r.scope, module, tag)?;
     Ok(tag_layer(
         environment(r, module),

@@ -1,4 +1,6 @@
 //! What is known while the types of modules are resolved.
+ghost use Rattle.std.specs.Prelude.{◌≡◌};
+ghost use Rattle.asn1_types.specs.Tags.{environment_of};
 
 use crate::model::{Body, Definition, Loosening, Looser, Place, TagLayer};
 use crate::problem::{Problem, Stop};
@@ -107,7 +109,9 @@ pub fn set_state(r: &mut Resolver<'_>, place: AssignmentPlace, state: State) {
 }
 
 /// The tags of a module (X.680, 13.2).
-pub fn environment(r: &Resolver<'_>, module: usize) -> TagDefault {
+pub fn environment(r: &Resolver<'_>, module: usize) -> TagDefault
+    ensures { result ≡ environment_of r.now.scope.modules.now «module» }
+{
     match r.scope.modules.get(module) {
         Some(module) => module.tags,
         None => TagDefault::Omitted,
