@@ -10,13 +10,11 @@
 //! | Module | Holds |
 //! |---|---|
 //! | `options` | the options of the command line |
-//! | `modules` | the files of the modules, and what is wrong in them |
-//! | `location` | lines and columns |
+//! | `looser` | where types accept more than their modules |
 //! | `output` | the files of a crate: they are written, or compared with those that are there |
 #![tactic(auto)]
 
-mod location;
-mod modules;
+mod looser;
 mod options;
 mod output;
 
@@ -26,7 +24,8 @@ use asn1_source::{
 };
 use asn1_types::model::{Definition, KnownType, Resolved};
 use asn1_types::resolve;
-use modules::{ModuleFile, Modules, parse_files, read_files, report_looser, report_problems};
+use looser::report_looser;
+use module_files::{ModuleFile, Modules, parse_files, read_files, report_problems};
 use options::{Options, options_of};
 use output::{check_files, write_files};
 use program_io::{ProgramError, arguments, explain, report, write_output};

@@ -1,16 +1,18 @@
 //! `asn1show` lists the elements of ASN.1 bytes, a line an element.
 //!
-//! `options` has those of the command line. `asn1show_lines` makes the lines, and `program_io` has the input and the standard streams.
+//! `options` has those of the command line, and `modules` the types that name the elements. `asn1show_lines` makes the lines, and `program_io` has the input and the standard streams.
 #![tactic(auto)]
 
 ghost use Rattle.std.specs.Prelude.{◌≡◌, ◌↔◌, ◌&&◌, not, if◌then◌else◌};
 ghost use Rattle.asn1show_printer.specs.Conformance.{accepts};
 ghost use Rattle.asn1show_walk.specs.Errors.{IsExternal};
 
+mod modules;
 mod options;
 
-use asn1show_lines::{Conformance, Output, Selection};
+use asn1show_lines::{Conformance, Output, Schema, Selection, View};
 use asn1show_walk::WalkError;
+use modules::schema;
 use options::{Options, options_of};
 use program_io::{ProgramError, arguments, explain, report};
 use std::io::{BufWriter, Write};
@@ -26,14 +28,23 @@ struct Listed {
     is_missing: bool,
 }
 
+// What is shown, with the names of the types of modules.
+fn named_view<'a>(options: &Options<'a>, schema: Option<&'a Schema>) -> View<'a> {
+    View {
+        schema,
+        ..options.view
+    }
+}
+
 // Lists an input.
-fn show(rt: &HostRuntime, options: &Options<'_>, input: &[u8]) -> Result<Listed, WalkError> {
-    let Options {
-        mode,
-        input_format,
-        view,
-        ..
-    } = *options;
+fn show<'a>(
+    rt: &HostRuntime,
+    options: &Options<'a>,
+    schema: Option<&'a Schema>,
+    input: &[u8],
+) -> Result<Listed, WalkError> {
+    let view = named_view(options, schema);
+    let (mode, input_format) = (options.mode, options.input_format);
     let mut out = Output::new(BufWriter::new(rt.alloc(), rt.stdout())?);
     let shown = asn1show_lines::show(rt.alloc(), &mut out, mode, input_format, view, input);
     let flushed = out.flush();
@@ -83,17 +94,30 @@ fn end(rt: &HostRuntime, options: &Options<'_>, listed: Listed) -> u8
 }
 
 // Lists an input that was read, and returns the status.
-fn list(rt: &HostRuntime, options: &Options<'_>, input: &[u8]) -> u8 {
-    match show(rt, options, input) {
+fn list<'a>(
+    rt: &HostRuntime,
+    options: &Options<'a>,
+    schema: Option<&'a Schema>,
+    input: &[u8],
+) -> u8 {
+    match show(rt, options, schema, input) {
         Ok(listed) => end(rt, options, listed),
         Err(error) => failed_status(rt, options.input.name(), error),
     }
 }
 
 // Reads and lists the input that the options name, and returns the status.
-fn run(rt: &HostRuntime, options: &Options<'_>) -> u8 {
+fn run_named<'a>(rt: &HostRuntime, options: &Options<'a>, schema: Option<&'a Schema>) -> u8 {
     match options.input.read(rt) {
-        Ok(input) => list(rt, options, input.as_slice()),
+        Ok(input) => list(rt, options, schema, input.as_slice()),
+        Err(status) => status,
+    }
+}
+
+// Reads the modules and the input that the options name, lists the input, and returns the status.
+fn run(rt: &HostRuntime, options: &Options<'_>) -> u8 {
+    match schema(rt, options) {
+        Ok(schema) => run_named(rt, options, schema.as_ref()),
         Err(status) => status,
     }
 }

@@ -7,16 +7,29 @@ use std::alloc::{AllocError, Global};
 use yasna_base::mode::BERMode;
 
 /// The options that the arguments name.
-#[derive(Clone, Copy)]
+#[derive(Drop)]
 pub struct Options<'a> {
     /// The encoding rules by which the input is read.
     pub mode: BERMode,
     /// The format of the input, or None if it is to be detected.
     pub input_format: Option<InputFormat>,
     /// What is shown of the elements, and how.
-    pub view: View,
+    pub view: View<'a>,
     /// What is read.
     pub input: Input<'a>,
+    matches: ArgMatches<'a>,
+}
+
+impl<'a> Options<'a> {
+    /// The files of modules that name the elements.
+    pub fn modules(&self) -> &[&'a str] {
+        self.matches.get_strs("module").unwrap_or(&[])
+    }
+
+    /// The type of the input, if modules name its elements.
+    pub fn type_name(&self) -> Option<&'a str> {
+        self.matches.get_str("type")
+    }
 }
 
 const WIDTH: usize = 64;
@@ -146,6 +159,23 @@ fn check_arg<'a>(alloc: Global) -> Arg<'a> {
     .value_parser(MODES.as_slice())
 }
 
+// The module and the type, of which neither is given alone.
+fn module_arg<'a>(alloc: Global) -> Result<Arg<'a>, AllocError> {
+    Arg::new(alloc, "module")
+        .long("module")
+        .value_name("FILE")
+        .action(ArgAction::Append)
+        .help("Name the elements by the types of this module")
+        .requires_arg("type")
+}
+
+fn type_arg<'a>(alloc: Global) -> Result<Arg<'a>, AllocError> {
+    value_arg(alloc, "type", "The type of the input in the module")
+        .long("type")
+        .value_name("NAME")
+        .requires_arg("module")
+}
+
 fn file_arg<'a>(alloc: Global) -> Arg<'a> {
     value_arg(
         alloc,
@@ -168,6 +198,8 @@ fn push_values(alloc: Global, args: &mut Vec<Arg<'_>>) -> Result<(), AllocError>
     args.push(json_arg(alloc, &["check", "extract"])?)?;
     args.push(decimal_arg(alloc))?;
     args.push(width_arg(alloc))?;
+    args.push(module_arg(alloc)?)?;
+    args.push(type_arg(alloc)?)?;
     Ok(args.push(file_arg(alloc))?)
 }
 
@@ -271,13 +303,14 @@ fn default_width(layout: Layout) -> usize {
     }
 }
 
-fn view_of(matches: &ArgMatches<'_>) -> View {
+fn view_of<'a>(matches: &ArgMatches<'a>) -> View<'a> {
     let layout = layout_of(matches);
     View {
         selection: selection_of(matches),
         layout,
         numbers: numbers_of(matches),
         width: number_of(matches, "width").unwrap_or(default_width(layout)),
+        schema: None,
     }
 }
 
@@ -297,17 +330,18 @@ fn matches_of<'a>(alloc: Global, words: &'a [String]) -> Result<ArgMatches<'a>, 
     command(alloc)?.try_get_matches_from(words)
 }
 
-fn found<'a>(matches: &ArgMatches<'a>) -> Options<'a> {
+fn found<'a>(matches: ArgMatches<'a>) -> Options<'a> {
     Options {
-        mode: mode_of(matches),
-        input_format: format_of(matches),
-        view: view_of(matches),
+        mode: mode_of(&matches),
+        input_format: format_of(&matches),
+        view: view_of(&matches),
         input: Input::named(matches.get_str("FILE")),
+        matches,
     }
 }
 
 /// The options of a command line, which begins with the program's name.
 pub fn options_of<'a>(alloc: Global, words: &'a [String]) -> Result<Options<'a>, Error> {
     let matches = matches_of(alloc, words)?;
-    Ok(found(&matches))
+    Ok(found(matches))
 }

@@ -43,5 +43,7 @@ pub element_written :
 element_written a b m d k new ms ds e1 e2 e3 e4 e5 = rw e5 (rw e4 (rw e3 (rw e2 (rw e1 (simp append_assoc)))))
 
 -- members of an element, written part by part
-pub members_written : (a p t new ps ts vs : List Token) → p ≡ a ++ ps → t ≡ p ++ ts → new ≡ t ++ vs → new ≡ a ++ (ps ++ (ts ++ vs))
-members_written a p t new ps ts vs e1 e2 e3 = rw e3 (rw e2 (rw e1 (simp append_assoc)))
+pub members_written :
+    (a p t f l new ps ts fs ls vs : List Token)
+    → p ≡ a ++ ps → t ≡ p ++ ts → f ≡ t ++ fs → l ≡ f ++ ls → new ≡ l ++ vs → new ≡ a ++ (ps ++ (ts ++ (fs ++ (ls ++ vs))))
+members_written a p t f l new ps ts fs ls vs e1 e2 e3 e4 e5 = rw e5 (rw e4 (rw e3 (rw e2 (rw e1 (simp append_assoc)))))

@@ -41,18 +41,25 @@ tag_tokens i =
     key (codes "class") ∷ string (class_name i.tag.tag_class) ∷ key (codes "tag") ∷ number (decimal i.tag.tag_number)
     ∷ key (codes "constructed") ∷ boolean (is_constructed i.bit) ∷ []
 
--- the members of an element before its diagnostics
-abbrev pub member_tokens : Item → Option (Bor (List ℕ)) → List Token
-member_tokens i value = place_tokens i ++ (tag_tokens i ++ (key (codes "value") ∷ value_token value ∷ []))
+-- the member for a name that a module gives, if it gives one
+abbrev pub name_tokens : List ℕ → Option (Bor (List ℕ)) → List Token
+name_tokens member (Some name) = key member ∷ string name.now ∷ []
+name_tokens member None = []
+
+-- the members of an element before its diagnostics: with the names of its part and its alternative, if it has them
+abbrev pub member_tokens : Item → Option (Bor (List ℕ)) → Option (Bor (List ℕ)) → Option (Bor (List ℕ)) → List Token
+member_tokens i part alternative value =
+    place_tokens i ++ (tag_tokens i ++ (name_tokens (codes "field") part ++ (name_tokens (codes "alternative") alternative
+    ++ (key (codes "value") ∷ value_token value ∷ []))))
 
 -- the member for diagnostics with these texts
 abbrev pub diagnostic_tokens : List (List ℕ) → List Token
 diagnostic_tokens texts = key (codes "diagnostics") ∷ begin_array ∷ (map string texts ++ (end_array ∷ []))
 
 -- an element up to the elements in it
-abbrev pub element_tokens : Item → Option (Bor (List ℕ)) → List (List ℕ) → List Token
-element_tokens i value texts =
-    begin_object ∷ (member_tokens i value ++ (diagnostic_tokens texts ++ (key (codes "children") ∷ begin_array ∷ [])))
+abbrev pub element_tokens : Item → Option (Bor (List ℕ)) → Option (Bor (List ℕ)) → Option (Bor (List ℕ)) → List (List ℕ) → List Token
+element_tokens i part alternative value texts =
+    begin_object ∷ (member_tokens i part alternative value ++ (diagnostic_tokens texts ++ (key (codes "children") ∷ begin_array ∷ [])))
 
 -- the ends of this many elements, one in the other
 abbrev pub end_tokens : ℕ → List Token
@@ -65,7 +72,7 @@ pub record IsJson (text : List ℕ) (ts : List Token) : Type 0 where
   pub reads_back : tokens text ≡ ts
 
 -- a text is the JSON of the ends of elements, and of an element with so many diagnostics up to the elements in it
-pub record IsElementJson (ends : ℕ) (i : Item) (value : Option (Bor (List ℕ))) (diagnostics : ℕ) (text : List ℕ) : Type 0 where
+pub record IsElementJson (ends : ℕ) (i : Item) (part alternative value : Option (Bor (List ℕ))) (diagnostics : ℕ) (text : List ℕ) : Type 0 where
   pub texts : List (List ℕ)
   pub counted : length texts ≡ diagnostics
-  pub json : IsJson text (end_tokens ends ++ element_tokens i value texts)
+  pub json : IsJson text (end_tokens ends ++ element_tokens i part alternative value texts)

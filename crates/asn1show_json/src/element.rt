@@ -1,7 +1,7 @@
 //! The JSON of an element, up to the elements in it.
 ghost use Rattle.std.specs.Prelude.{◌≡◌, List, ℕ, [], ◌∷◌, ◌++◌, length, map, codes, decimal, IfOk, OnOk};
 ghost use Rattle.json.specs.Token.{begin_array, boolean, end_array, key, number, string};
-ghost use Rattle.asn1show_json.specs.Json.{class_name, diagnostic_tokens, element_tokens, end_tokens, is_constructed, length_token, member_tokens, place_tokens, tag_tokens, value_token, IsElementJson, IsJson};
+ghost use Rattle.asn1show_json.specs.Json.{class_name, diagnostic_tokens, element_tokens, end_tokens, is_constructed, length_token, member_tokens, name_tokens, place_tokens, tag_tokens, value_token, IsElementJson, IsJson};
 
 use asn1show_printer::Diagnostic;
 use asn1show_walk::Item;
@@ -100,13 +100,32 @@ fn write_value(json: &mut Writer, value: Option<&str>) -> Result<(), AllocError>
     }
 }
 
-// Writes the members of an element before its diagnostics.
-fn write_members(json: &mut Writer, item: &Item<'_>, value: Option<&str>) -> Result<(), AllocError>
+// Writes the member for a name, if there is one.
+fn write_name(json: &mut Writer, member: &str, name: Option<&str>) -> Result<(), AllocError>
     ensures before { json.new.before ≡ json.old.before }
-    ensures tokens { OnOk result (json.new.tokens ≡ json.old.tokens ++ member_tokens item.now value.entry) }
+    ensures tokens { OnOk result (json.new.tokens ≡ json.old.tokens ++ name_tokens member.now name.entry) }
+{
+    match name {
+        Some(name) => write_text(json, member, name),
+        None => Ok(()),
+    }
+}
+
+// Writes the members of an element before its diagnostics.
+fn write_members(
+    json: &mut Writer,
+    item: &Item<'_>,
+    part: Option<&str>,
+    alternative: Option<&str>,
+    value: Option<&str>,
+) -> Result<(), AllocError>
+    ensures before { json.new.before ≡ json.old.before }
+    ensures tokens { OnOk result (json.new.tokens ≡ json.old.tokens ++ member_tokens item.now part.entry alternative.entry value.entry) }
 {
     write_place(json, item)?;
     write_tag(json, item)?;
+    write_name(json, "field", part)?;
+    write_name(json, "alternative", alternative)?;
     write_value(json, value)
 }
 
@@ -137,15 +156,17 @@ fn write_diagnostics(json: &mut Writer, diagnostics: &[Diagnostic]) -> Result<()
 fn write_element(
     json: &mut Writer,
     item: &Item<'_>,
+    part: Option<&str>,
+    alternative: Option<&str>,
     value: Option<&str>,
     diagnostics: &[Diagnostic],
 ) -> Result<(), AllocError>
     ensures before { json.new.before ≡ json.old.before }
     ensures tokens { OnOk result ((texts : List (List ℕ)) × (length texts ≡ length diagnostics.now)
-        × (json.new.tokens ≡ json.old.tokens ++ element_tokens item.now value.entry texts)) }
+        × (json.new.tokens ≡ json.old.tokens ++ element_tokens item.now part.entry alternative.entry value.entry texts)) }
 {
     json.begin_object()?;
-    write_members(json, item, value)?;
+    write_members(json, item, part, alternative, value)?;
     write_diagnostics(json, diagnostics)?;
     json.key("children")?;
     json.begin_array()
@@ -170,14 +191,16 @@ pub fn element_text(
     alloc: Global,
     ends: u8,
     item: &Item<'_>,
+    part: Option<&str>,
+    alternative: Option<&str>,
     value: Option<&str>,
     diagnostics: &[Diagnostic],
 ) -> Result<Vec<u8>, AllocError>
-    ensures { IfOk result (λ text. IsElementJson ends item.now value.entry (length diagnostics.now) text.items) }
+    ensures { IfOk result (λ text. IsElementJson ends item.now part.entry alternative.entry value.entry (length diagnostics.now) text.items) }
 {
     let mut json = Writer::new(Vec::new(alloc));
     write_ends(&mut json, ends)?;
-    write_element(&mut json, item, value, diagnostics)?;
+    write_element(&mut json, item, part, alternative, value, diagnostics)?;
     Ok(json.into_inner())
 }
 

@@ -4,7 +4,7 @@ ghost use Rattle.asn1show_walk.specs.Errors.{IsExternal};
 
 use crate::element::{element_text, end_text, start_text};
 use crate::open_elements::OpenElements;
-use asn1show_printer::{LineBuffer, Output, Report, Style, characters_of};
+use asn1show_printer::{Label, LineBuffer, Output, Report, Style, characters_of};
 use asn1show_walk::{Context, Item, Place, Visitor, WalkError, is_one_element};
 use std::alloc::Global;
 use std::io::Write;
@@ -47,6 +47,14 @@ fn value_of<'s>(item: &'s Item<'_>, shown: &'s [u8]) -> Option<&'s str> {
     str::from_utf8(shown).ok()
 }
 
+// The text of a name, if it isn't empty.
+fn text_of(name: &[u8]) -> Option<&str> {
+    if name.is_empty() {
+        return None;
+    }
+    str::from_utf8(name).ok()
+}
+
 impl<'w, 'n, W: Write + Drop> JsonPrinter<'w, 'n, W> {
     /// Begins the array. `Err` says that memory ran out, or that a write failed.
     pub fn begin(
@@ -66,12 +74,20 @@ impl<'w, 'n, W: Write + Drop> JsonPrinter<'w, 'n, W> {
     }
 
     // Writes an element that was described.
-    fn write_element(&mut self, item: &Item<'_>) -> Result<(), WalkError>
+    fn write_element(&mut self, item: &Item<'_>, label: Label<'_>) -> Result<(), WalkError>
         ensures { IfErr result IsExternal }
     {
         let ends = self.open.enter(item.depth);
         let value = value_of(item, self.report.value()?);
-        let text = element_text(self.alloc, ends, item, value, self.report.diagnostics())?;
+        let text = element_text(
+            self.alloc,
+            ends,
+            item,
+            text_of(label.part),
+            text_of(label.alternative),
+            value,
+            self.report.diagnostics(),
+        )?;
         write_line(self.output, self.alloc, text.as_slice())
     }
 
@@ -102,9 +118,10 @@ impl<'w, 'n, W: Write + Drop> Visitor for JsonPrinter<'w, 'n, W> {
     ghost rejects = { λ _. IsExternal };
 
     fn visit(&mut self, item: &Item<'_>) -> Result<(), WalkError> {
-        self.report.describe(item);
+        let label = self.report.label(item);
+        self.report.describe(item, label);
         if self.report.count(item) {
-            self.write_element(item)?;
+            self.write_element(item, label)?;
         }
         self.report.discard()
     }

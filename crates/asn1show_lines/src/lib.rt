@@ -17,6 +17,8 @@ mod input_format;
 mod lines;
 mod pem;
 
-pub use asn1show_printer::{Conformance, Extent, Layout, Numbers, Output, Part, Selection, View};
+pub use asn1show_printer::{
+    Conformance, Extent, Layout, Numbers, Output, Part, Schema, Selection, View,
+};
 pub use input_format::InputFormat;
 pub use lines::show;

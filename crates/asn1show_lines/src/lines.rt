@@ -304,7 +304,7 @@ pub fn show<W: Write + Drop>(
     out: &mut Output<W>,
     mode: BERMode,
     input_format: Option<InputFormat>,
-    view: View,
+    view: View<'_>,
     input: &[u8],
 ) -> Result<(), WalkError>
     ensures raw { OnOk result (IsTakenAs input_format input.now Bytes → IsJoining (IsRaw mode max_depth) input.now) }

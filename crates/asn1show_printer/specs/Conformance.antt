@@ -5,7 +5,7 @@ use Rattle.yasna_base.specs.declared.mode.BERMode.TheVariants.{Ber, Der, Cer}
 use Rattle.asn1show_printer.specs.declared.diagnostic.Conformance.{Conformance}
 use Rattle.asn1show_printer.specs.declared.diagnostic.Diagnostic.{Diagnostic}
 use Rattle.asn1show_printer.specs.declared.diagnostic.Diagnostic.TheVariants.{LongLength, Indefinite, Segments, Truth, Padding, Order, TagOrder, Time, Local}
-use Rattle.asn1show_printer.specs.declared.diagnostic.Diagnostic.TheVariants.{Definite, Uncut}
+use Rattle.asn1show_printer.specs.declared.diagnostic.Diagnostic.TheVariants.{Definite, Uncut, NotInModule}
 use Rattle.asn1show_printer.specs.declared.selection.Selection.{Selection}
 use Rattle.asn1show_printer.specs.declared.selection.Selection.TheVariants.{Elements, Defects, Bytes}
 
@@ -37,6 +37,7 @@ excludes Time m = is_canonical m
 excludes Local m = is_canonical m
 excludes Definite m = is_cer m
 excludes Uncut m = is_cer m
+excludes NotInModule m = false
 excludes other m = true
 
 -- whether elements conform to a mode
@@ -45,8 +46,10 @@ conforms c Ber = c.ber
 conforms c Der = c.der
 conforms c Cer = c.cer
 
--- whether a diagnostic of an element is shown, which may be in a string: in a listing what excludes DER, and in a check what excludes the rules of the whole
+-- whether a diagnostic of an element is shown, which may be in a string: in a listing what excludes DER or isn't in the module, and in a check what
+-- excludes the rules of the whole
 abbrev pub shows : Selection → Bool → Diagnostic → Bool
+shows (Elements extent) in_string NotInModule = true
 shows (Elements extent) in_string d = excludes d Der
 shows (Defects m) in_string d = not in_string && excludes d m
 shows (Bytes at part) in_string d = false

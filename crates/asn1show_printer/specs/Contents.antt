@@ -25,7 +25,7 @@ use Rattle.asn1show_printer.specs.declared.diagnostic.Diagnostic.{Diagnostic}
 use Rattle.asn1show_printer.specs.declared.diagnostic.Diagnostic.TheVariants.{LongLength, Indefinite, Segments, Truth, Padding, Order, TagOrder, Time, Local}
 use Rattle.asn1show_printer.specs.declared.diagnostic.Diagnostic.TheVariants.{HasParts, HasNoParts, Segment, AfterUnusedBits, Boolean as NoBoolean, Number}
 use Rattle.asn1show_printer.specs.declared.diagnostic.Diagnostic.TheVariants.{Null as NoNull, Bits as NoBits, NoComponent, LongComponent, CutComponent, NoTime}
-use Rattle.asn1show_printer.specs.declared.diagnostic.Diagnostic.TheVariants.{Characters as NoCharacters, Definite, Uncut}
+use Rattle.asn1show_printer.specs.declared.diagnostic.Diagnostic.TheVariants.{Characters as NoCharacters, Definite, Uncut, NotInModule}
 
 -- the contents of a bit string: the count of unused bits in the last octet, and the octets
 pub record AreBits (m : BERMode) (c : List ℕ) : Type 0 where
@@ -122,6 +122,7 @@ is_of_ber NoCharacters = true
 is_of_ber NoTime = true
 is_of_ber Definite = false
 is_of_ber Uncut = false
+is_of_ber NotInModule = false
 
 -- contents conform to each mode
 abbrev pub InAll : (BERMode → List ℕ → Type 0) → List ℕ → Type 0

@@ -56,6 +56,8 @@ pub enum Diagnostic {
     Definite,
     /// A string isn't cut into segments as CER cuts it (X.690, 9.2).
     Uncut,
+    /// The type of the module has no such element there.
+    NotInModule,
 }
 
 impl Diagnostic {
@@ -86,6 +88,7 @@ impl Diagnostic {
             Diagnostic::NoTime => "not BER: no time",
             Diagnostic::Definite => "not CER: definite length",
             Diagnostic::Uncut => "not CER: not cut into segments of 1000 octets",
+            Diagnostic::NotInModule => "not in the module",
         }
     }
 
@@ -99,6 +102,7 @@ impl Diagnostic {
                 mode == BERMode::Der
             }
             Diagnostic::Definite | Diagnostic::Uncut => mode == BERMode::Cer,
+            Diagnostic::NotInModule => false,
             Diagnostic::LongLength
             | Diagnostic::Truth
             | Diagnostic::Padding

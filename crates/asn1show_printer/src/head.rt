@@ -2,6 +2,7 @@
 
 use crate::line::LineBuffer;
 use crate::type_names::type_name;
+use asn1show_schema::Label;
 use asn1show_walk::Item;
 use yasna_base::tag::{PCBit, Tag, TagClass};
 use yasna_base::tags::TAG_NULL;
@@ -51,12 +52,26 @@ fn has_value(item: &Item<'_>) -> bool {
     item.bit == PCBit::Primitive && item.tag != TAG_NULL
 }
 
-/// Writes an element's place, lengths and type, up to its value.
-pub fn write_head(line: &mut LineBuffer, item: &Item<'_>) {
+// Writes the names that a module gives an element, if it gives one.
+fn write_label(line: &mut LineBuffer, label: Label<'_>) {
+    if label.part.is_empty() && label.alternative.is_empty() {
+        return;
+    }
+    line.write_all(label.part);
+    if !label.part.is_empty() && !label.alternative.is_empty() {
+        line.write_str(".");
+    }
+    line.write_all(label.alternative);
+    line.write_str(" ")
+}
+
+/// Writes an element's place, lengths, names and type, up to its value.
+pub fn write_head(line: &mut LineBuffer, item: &Item<'_>, label: Label<'_>) {
     write_place(line, item);
     line.write_str(if item.in_string { ">" } else { " " });
     let indent = 1 + 2 * usize::from(item.depth);
     write!(line, "{:indent$}", "");
+    write_label(line, label);
     write_tag(line, item.tag);
     if has_value(item) {
         line.write_str(" ")

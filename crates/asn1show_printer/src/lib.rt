@@ -34,6 +34,7 @@ mod type_names;
 mod value;
 
 pub use asn1show_names::Names;
+pub use asn1show_schema::{Label, Schema};
 pub use diagnostic::{Conformance, Diagnostic};
 pub use line::LineBuffer;
 pub use output::Output;

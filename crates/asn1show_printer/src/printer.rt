@@ -105,8 +105,9 @@ impl<'w, 'n, W: Write + Drop> Visitor for Printer<'w, 'n, W> {
     ghost rejects = { λ _. IsExternal };
 
     fn visit(&mut self, item: &Item<'_>) -> Result<(), WalkError> {
-        write_head(&mut self.report.line, item);
-        self.report.describe(item);
+        let label = self.report.label(item);
+        write_head(&mut self.report.line, item, label);
+        self.report.describe(item, label);
         self.report.print_diagnostics();
         self.extract(item);
         if self.report.count(item) {

@@ -11,6 +11,7 @@ use crate::output::Output;
 use crate::selection::Position;
 use crate::sets::{are_cer_segments, order_of, stays_whole};
 use crate::value::{Style, is_shown_as_text, write_quoted, write_value};
+use asn1show_schema::{Fields, Label};
 use asn1show_walk::{Item, WalkError};
 use std::alloc::AllocError;
 use std::io::Write;
@@ -37,6 +38,8 @@ pub struct Report<'n> {
     is_segment: bool,
     // Whether a segment of the outermost open BIT STRING has unused bits.
     has_unused_bits: bool,
+    // Which part of a type each element is, if a module is given.
+    fields: Option<Fields<'n>>,
 }
 
 impl<'n> Report<'n> {
@@ -52,17 +55,33 @@ impl<'n> Report<'n> {
             around: Vec::new(style.alloc),
             is_segment: false,
             has_unused_bits: false,
+            fields: fields_of(style),
         }
     }
 
-    /// Appends the value of an element to the line, and notes its diagnostics.
-    pub fn describe(&mut self, item: &Item<'_>) {
+    /// What an element is in the type of the module. It has no name if no module is given.
+    pub fn label(&mut self, item: &Item<'_>) -> Label<'n> {
+        let Some(fields) = &mut self.fields else {
+            return Label::unnamed();
+        };
+        match fields.enter(item.depth, item.tag) {
+            Ok(label) => label,
+            Err(_) => {
+                self.line.fail_out_of_memory();
+                Label::unnamed()
+            }
+        }
+    }
+
+    /// Appends the value of an element with this label to the line, and notes its diagnostics.
+    pub fn describe(&mut self, item: &Item<'_>, label: Label<'_>) {
         let kind = type_of(item.tag);
         self.element = Conformance::new();
         self.diagnostics.clear();
         self.print_contents(item, kind);
         self.diagnose_header(item);
         self.diagnose(item, cer_diagnostic(item, kind));
+        self.diagnose(item, unless(!label.is_unknown, Diagnostic::NotInModule));
         if self.around.push(segments_of(item.bit, kind)).is_err() {
             self.line.fail_out_of_memory();
         }
@@ -206,6 +225,14 @@ impl<'n> Report<'n> {
         self.diagnose(item, unless(!is_long(item), Diagnostic::LongLength));
         self.diagnose(item, unless(is_expected, Diagnostic::Segment));
         self.diagnose(item, unless(may_follow, Diagnostic::AfterUnusedBits))
+    }
+}
+
+// The parts of the type of the module, if one is given.
+fn fields_of<'n>(style: Style<'n>) -> Option<Fields<'n>> {
+    match style.view.schema {
+        Some(schema) => Some(Fields::new(style.alloc, schema)),
+        None => None,
     }
 }
 

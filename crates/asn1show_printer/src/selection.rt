@@ -118,7 +118,10 @@ impl Selection {
         ensures { result ≡ shows self in_string diagnostic }
     {
         match self {
-            Selection::Elements(_) => diagnostic.excludes(BERMode::Der),
+            Selection::Elements(_) => match diagnostic {
+                Diagnostic::NotInModule => true,
+                other => other.excludes(BERMode::Der),
+            },
             Selection::Defects(mode) => !in_string && diagnostic.excludes(mode),
             Selection::Bytes(..) => false,
         }

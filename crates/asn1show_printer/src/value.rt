@@ -17,6 +17,7 @@ use crate::line::LineBuffer;
 use crate::selection::Selection;
 use arcs::{are_components, components_diagnostic, write_oid, write_relative};
 use asn1show_names::Names;
+use asn1show_schema::Schema;
 use asn1show_walk::Item;
 use number::write_integer;
 use octets::{are_bits, is_padding_clear, write_bits, write_octets};
@@ -60,7 +61,7 @@ pub enum Layout {
 
 /// What is shown of elements, and how.
 #[derive(Clone, Copy)]
-pub struct View {
+pub struct View<'n> {
     /// What is shown.
     pub selection: Selection,
     /// How elements are laid out.
@@ -69,9 +70,11 @@ pub struct View {
     pub numbers: Numbers,
     /// The most hexadecimal digits that are written of a value.
     pub width: usize,
+    /// The types of modules that name the elements, if these are given.
+    pub schema: Option<&'n Schema>,
 }
 
-impl View {
+impl<'n> View<'n> {
     /// Whether lines are written, and not only bytes or JSON.
     pub fn has_lines(self) -> bool {
         matches!(self.layout, Layout::Lines) && self.selection.has_lines()
@@ -86,7 +89,7 @@ pub struct Style<'n> {
     /// The names of object identifiers.
     pub names: &'n Names,
     /// What is shown, and how.
-    pub view: View,
+    pub view: View<'n>,
 }
 
 // Writes a BOOLEAN, and reports what is wrong with it.

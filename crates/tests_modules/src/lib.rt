@@ -3,6 +3,7 @@
 //! | Module | Holds |
 //! |---|---|
 //! | `described` | resolved types, described in one line each |
+//! | `fields` | which part of a type each element is |
 //! | `sources` | what `asn1_source` writes for types |
 //! | `syntax` | lexical items and trees of `asn1_syntax` |
 //! | `types` | what `asn1_types` resolves modules to |
@@ -10,6 +11,8 @@
 
 #[cfg(test)]
 mod described;
+#[cfg(test)]
+mod fields;
 #[cfg(test)]
 mod sources;
 #[cfg(test)]

@@ -22,6 +22,7 @@
 //! | `pieces` | none: it holds how rows of bytes are read and written again |
 //! | `records`, `scrypt`, `third_party` | types of one's own |
 //! | `shown` | the lines of malformed and unusual elements |
+//! | `shown_fields` | elements with the names of a module |
 //! | `shown_json` | the JSON of elements |
 //! | `times` | both times |
 //! | `tree` | a type that refers to itself, and elements at 101 levels |
@@ -68,6 +69,8 @@ mod records;
 mod scrypt;
 #[cfg(test)]
 mod shown;
+#[cfg(test)]
+mod shown_fields;
 #[cfg(test)]
 mod shown_json;
 #[cfg(test)]

@@ -55,7 +55,7 @@ impl Expectation {
 pub(crate) type Row = (&'static str, Option<InputFormat>, BERMode, Expectation);
 
 /// Each element, with 16 hexadecimal digits of a value.
-pub(crate) const ALL: View = View {
+pub(crate) const ALL: View<'static> = View {
     selection: Selection::Elements(Extent {
         at: None,
         depth: 255,
@@ -63,6 +63,7 @@ pub(crate) const ALL: View = View {
     layout: Layout::Lines,
     numbers: Numbers::Hexadecimal,
     width: 16,
+    schema: None,
 };
 
 // Whether this was written with this outcome.
@@ -87,7 +88,7 @@ fn is_met(
 pub(crate) fn is_viewed(
     alloc: Global,
     row: &Row,
-    view: View,
+    view: View<'_>,
     is_accepted: bool,
 ) -> ASN1Result<bool> {
     let (input, input_format, mode, expected) = *row;
@@ -106,7 +107,7 @@ pub(crate) fn is_viewed(
 }
 
 /// Whether exactly these bytes are written of an input in a view.
-pub(crate) fn is_written(alloc: Global, input: &str, view: View, bytes: &[u8]) -> bool {
+pub(crate) fn is_written(alloc: Global, input: &str, view: View<'_>, bytes: &[u8]) -> bool {
     let mut output = Output::new(Vec::new(alloc));
     let outcome = show(alloc, &mut output, Ber, None, view, input.as_bytes());
     outcome.is_ok() && output.writer().as_slice() == bytes

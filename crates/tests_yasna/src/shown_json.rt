@@ -8,7 +8,7 @@ use asn1show_lines::{Extent, Layout, View};
 use std::alloc::Global;
 use yasna::BERMode::{Ber, Der};
 
-const JSON: View = View {
+const JSON: View<'static> = View {
     layout: Layout::Json,
     ..ALL
 };

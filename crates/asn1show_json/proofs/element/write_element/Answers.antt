@@ -5,7 +5,7 @@ use Rattle.asn1show_json.proofs.element.write_element.Goals as goal
 pub returns-clause-tokens : goal.returns-clause-tokens
 returns-clause-tokens c =
     let w = c.in_ok-write_diagnostics.ensures.tokens in
-    let members = member_tokens c.args.item.now c.args.value in
+    let members = member_tokens c.args.item.now c.args.part c.args.alternative c.args.value in
     let start = c.args.json.now.tokens in
     let begun = c.begin_object.new.self.tokens in
     let listed = c.write_members.new.json.tokens in

@@ -90,8 +90,8 @@ pub fn parse_files<'a>(rt: &HostRuntime, files: &'a [ModuleFile<'a>]) -> Result<
     if status == 0 { Ok(all) } else { Err(status) }
 }
 
-// Prints what is wrong at a place of a module.
-fn report_place(
+/// Prints what is wrong at a place of a module.
+pub fn report_place(
     rt: &HostRuntime,
     files: &[ModuleFile<'_>],
     modules: &Modules<'_>,
@@ -136,24 +136,4 @@ pub fn report_problems(
         }
     }
     if problems.is_empty() { 0 } else { REJECTED }
-}
-
-/// Prints where types accept more than their modules, and returns the status.
-pub fn report_looser(
-    rt: &HostRuntime,
-    files: &[ModuleFile<'_>],
-    modules: &Modules<'_>,
-    looser: &[asn1_types::model::Looser],
-) -> u8 {
-    for one in looser {
-        report_place(
-            rt,
-            files,
-            modules,
-            one.place.module,
-            one.place.offset,
-            asn1_source::looser_text(one.what),
-        );
-    }
-    if looser.is_empty() { 0 } else { REJECTED }
 }

@@ -1,0 +1,123 @@
+//! Lines and JSON with the names of a module, as `asn1show_modules` makes its tables.
+
+use crate::checks::finds_none;
+use crate::lines::Expectation::Listed;
+use crate::lines::{ALL, Row, is_viewed};
+use asn1show_lines::{Layout, Schema, View};
+use asn1show_schema::schema::{Beginning, Contents, Name, Parts, Place};
+use std::alloc::{AllocError, Global};
+use yasna::BERMode::Ber;
+use yasna_base::tag::Tag;
+use yasna_base::tags::{TAG_INTEGER, TAG_NULL, TAG_SEQUENCE};
+
+// An element of the type A ::= SEQUENCE { a INTEGER, b CHOICE { c NULL } OPTIONAL }, and one element more.
+static NAMED: Row = (
+    "3007 020105 0500 0500",
+    None,
+    Ber,
+    Listed(
+        "input: hexadecimal, 9 bytes
+      0  2+7        SEQUENCE
+      2  2+1          a INTEGER 5
+      5  2+0          b.c NULL
+      7  2+0          NULL -- not in the module
+rules: BER, DER
+",
+        "",
+    ),
+);
+
+static NAMED_IN_JSON: Row = (
+    "3007 020105 0500 0500",
+    None,
+    Ber,
+    Listed(
+        "[
+{\"offset\":0,\"header\":2,\"length\":7,\"class\":\"universal\",\"tag\":16,\"constructed\":true,\"value\":null,\"diagnostics\":[],\"children\":[
+{\"offset\":2,\"header\":2,\"length\":1,\"class\":\"universal\",\"tag\":2,\"constructed\":false,\"field\":\"a\",\"value\":\"5\",\"diagnostics\":[],\"children\":[
+]},{\"offset\":5,\"header\":2,\"length\":0,\"class\":\"universal\",\"tag\":5,\"constructed\":false,\"field\":\"b\",\"alternative\":\"c\",\"value\":null,\"diagnostics\":[],\"children\":[
+]},{\"offset\":7,\"header\":2,\"length\":0,\"class\":\"universal\",\"tag\":5,\"constructed\":false,\"value\":null,\"diagnostics\":[\"not in the module\"],\"children\":[
+]}]}]
+",
+        "",
+    ),
+);
+
+// A name of one letter in the text of names.
+fn letter(start: usize) -> Name {
+    Name {
+        start,
+        end: start.saturating_add(1),
+    }
+}
+
+fn beginning(tag: Tag, alternative: Name, contents: Contents) -> Beginning {
+    Beginning {
+        tag: Some(tag),
+        alternative,
+        contents,
+    }
+}
+
+// A place whose element begins as the row with its number.
+fn place(name: Name, may_be_absent: bool, row: usize) -> Place {
+    Place {
+        name,
+        may_be_absent,
+        first: row,
+        end: row.saturating_add(1),
+    }
+}
+
+// The tables of that type.
+fn schema(alloc: Global) -> Result<Schema, AllocError> {
+    let mut text = Vec::new(alloc);
+    text.extend_from_slice(b"abc")?;
+    let none = Name { start: 0, end: 0 };
+    let mut beginnings = Vec::new(alloc);
+    beginnings.push(beginning(TAG_INTEGER, none, Contents::Value))?;
+    beginnings.push(beginning(TAG_NULL, letter(2), Contents::Value))?;
+    let parts = Parts {
+        first: 0,
+        end: 2,
+        extension: None,
+    };
+    beginnings.push(beginning(TAG_SEQUENCE, none, Contents::InOrder(parts)))?;
+    let mut places = Vec::new(alloc);
+    places.push(place(letter(0), false, 0))?;
+    places.push(place(letter(1), true, 1))?;
+    places.push(place(none, false, 2))?;
+    Ok(Schema {
+        text,
+        places,
+        beginnings,
+        start: 2,
+    })
+}
+
+// The row whose lines or JSON haven't the names.
+fn first_unnamed(alloc: Global) -> Option<&'static str> {
+    let Ok(schema) = schema(alloc) else {
+        return Some("the tables");
+    };
+    let lines = View {
+        schema: Some(&schema),
+        ..ALL
+    };
+    let json = View {
+        layout: Layout::Json,
+        ..lines
+    };
+    if !matches!(is_viewed(alloc, &NAMED, lines, true), Ok(true)) {
+        return Some("lines");
+    }
+    if !matches!(is_viewed(alloc, &NAMED_IN_JSON, json, true), Ok(true)) {
+        return Some("JSON");
+    }
+    None
+}
+
+#[test]
+fn elements_have_names_of_a_module(rt: HostRuntime) {
+    finds_none(&rt, first_unnamed(rt.alloc()));
+}
