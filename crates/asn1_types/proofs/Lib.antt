@@ -1,1 +1,2 @@
 pub mod TagsBefore
+pub mod Layered

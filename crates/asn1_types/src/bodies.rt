@@ -1,9 +1,13 @@
 //! The tags, the parts and the bodies of SEQUENCEs, SETs and CHOICEs.
-ghost use Rattle.std.specs.Prelude.{◌≡◌, IfOk, map};
+ghost use Rattle.std.specs.Prelude.{◌≡◌, [], IfOk, OnOk, map, not};
 ghost use Rattle.std.specs.List.{enumerate_from};
+ghost use Rattle.asn1_types.specs.Layers.{AreLayers};
 ghost use Rattle.asn1_types.specs.Numbers.{AreNumbers, has_own_tag, is_added, number_at};
+ghost use Rattle.asn1_types.specs.Parts.{IsFinished};
 ghost use Rattle.asn1_types.specs.Presence.{KeepsPresence};
+ghost use Rattle.asn1_types.specs.Tagged.{IsTaggedIf};
 ghost use Rattle.asn1_types.specs.Tags.{environment_of};
+ghost use Rattle.asn1_types.specs.Trees.{both, has_tag_before};
 
 use crate::components::{WrittenPart, WrittenParts};
 use crate::constraints::loosening_of;
@@ -23,26 +27,51 @@ use asn1_syntax::Token;
 use asn1_syntax::tree::{Presence as WrittenPresence, TypeNotation};
 use std::alloc::{AllocError, Global};
 
-/// The layers of the tags before a type, outermost first.
-pub fn layers<'a>(
+// Whether the tag before a type is before an untagged CHOICE, of whether the type without its tags is a CHOICE.
+fn is_before_choice<'a>(is_choice: bool, inner: &'a TypeNotation<'a>) -> bool
+    ensures { result ≡ both is_choice (not (has_tag_before inner.now)) }
+{
+    is_choice && !is_tagged(inner)
+}
+
+// Appends the layers of the tags before a type.
+#[tactic(auto, using(crate::proofs::Layered::plain_ends, crate::proofs::Layered::selected_ends, crate::proofs::Layered::list_ends, crate::proofs::Layered::constructed_ends))]
+fn push_layers<'a>(
     r: &Resolver<'a>,
-    at: TypeAt<'a>,
+    module: usize,
+    notation: &'a TypeNotation<'a>,
     is_choice: bool,
-) -> Result<Vec<TagLayer>, Stop> {
-    let mut layers = Vec::new(r.alloc);
-    let mut rest = at.notation;
-    loop {
-        rest = match rest {
-            TypeNotation::Tagged(tag, inner) => {
-                let is_untagged = is_choice && !is_tagged(&**inner);
-                let next = layer(r, at.module, tag, is_untagged)?;
-                layers.push(next)?;
-                &**inner
-            }
-            TypeNotation::Constrained(inner, _) => &**inner,
-            _ => return Ok(layers),
-        };
+    layers: &mut Vec<TagLayer>,
+) -> Result<(), Stop>
+    ensures { OnOk result (AreLayers (environment_of r.now.scope.modules.now «module») is_choice
+        layers.old.items notation.now layers.new.items) }
+{
+    match notation {
+        TypeNotation::Tagged(tag, inner) => {
+            let next = layer(r, module, tag, is_before_choice(is_choice, inner))?;
+            layers.push(next)?;
+            push_layers(r, module, inner, is_choice, layers)?;
+            Ok(())
+        }
+        TypeNotation::Constrained(inner, _) => {
+            push_layers(r, module, inner, is_choice, layers)?;
+            Ok(())
+        }
+        TypeNotation::Plain(_) => Ok(()),
+        TypeNotation::Selected(_, _) => Ok(()),
+        TypeNotation::ListOf(_, _) => Ok(()),
+        TypeNotation::Constructed(_, _) => Ok(()),
     }
+}
+
+/// The layers of the tags before a type, outermost first, of whether the type without its tags is a CHOICE.
+pub fn layers<'a>(r: &Resolver<'a>, at: TypeAt<'a>, is_choice: bool) -> Result<Vec<TagLayer>, Stop>
+    ensures { IfOk result (λ layers. AreLayers (environment_of r.now.scope.modules.now at.entry.module) is_choice
+        [] at.entry.notation.now layers.items) }
+{
+    let mut layers = Vec::new(r.alloc);
+    push_layers(r, at.module, at.notation, is_choice, &mut layers)?;
+    Ok(layers)
 }
 
 /// Records the constraints of a SEQUENCE, a SET, a CHOICE or an ENUMERATED.
@@ -182,6 +211,16 @@ fn presence_of<'a>(
     }
 }
 
+// A notation, under an automatic tag if it has a number.
+fn tagged_if(r: &Resolver<'_>, number: Option<usize>, inner: Notation) -> Result<Notation, Stop>
+    ensures { IfOk result (IsTaggedIf r.now.scope.known.now r.now.tag_sets.items number inner) }
+{
+    match number {
+        Some(number) => automatically_tagged(r, number, inner),
+        None => Ok(inner),
+    }
+}
+
 /// A part of a type that is resolved, with an automatic tag if it has a number.
 pub fn finished<'a>(
     r: &mut Resolver<'a>,
@@ -189,12 +228,11 @@ pub fn finished<'a>(
     written: TypeAt<'a>,
     notation: Notation,
     number: Option<usize>,
-) -> Result<Part<'a>, Stop> {
+) -> Result<Part<'a>, Stop>
+    ensures { IfOk result (IsFinished r.new.scope.known.now r.new.tag_sets.items source.entry number notation) }
+{
     let presence = presence_of(r, source, written, &notation)?;
-    let notation = match number {
-        Some(number) => automatically_tagged(r, number, notation)?,
-        None => notation,
-    };
+    let notation = tagged_if(r, number, notation)?;
     Ok(Part {
         place: at(source.module, source.name),
         name: source.name.text,

@@ -4,15 +4,16 @@
 //!
 //! - the functions of `tags`: whether a tag is EXPLICIT or IMPLICIT (30.6), when parts are tagged automatically (24.2 and 28.2), and by which numbers
 //!   (24.7);
-//! - one tag that is written (`plain::layer`): its class and its mode, by its words, the TagDefault of its module, and whether the type under it is
-//!   untagged, which is passed;
+//! - the notation under one tag (`plain::tagged`): the tag's class and its mode, by its words, the TagDefault of its module, and whether the notation
+//!   under it is untagged;
+//! - the tags before the body of an assignment (`bodies::layers`): the same of each of them, in their order;
 //! - the numbers of the parts in one pair of braces (`bodies::numbers_of`): whether these are tagged automatically, and the number of each. The parts
 //!   of COMPONENTS OF get numbers too, but their own tags don't count;
-//! - that what may be absent still may be;
+//! - one part (`bodies::finished`): its name, whether it may be absent, and its notation under the automatic tag of its number;
 //! - that the module of an import is the one after FROM.
 //!
-//! Only tested are: that these are called for each type and each part; the number of a tag, and whether a type is untagged; what COMPONENTS OF adds
-//! to a list; and what names, values and constraints are resolved to.
+//! Only tested are: that these are called for each type and each part; the number of a tag, and whether a name is that of an untagged CHOICE; what
+//! COMPONENTS OF adds to a list; and what names, values and constraints are resolved to.
 //!
 //! | Module | Holds |
 //! |---|---|

@@ -1,5 +1,6 @@
 //! Types in which no other type is, tags, and constraints of a notation.
 ghost use Rattle.std.specs.Prelude.{◌≡◌, IfOk};
+ghost use Rattle.asn1_types.specs.Tagged.{IsTaggedAutomaticallyBy, IsTaggedBy};
 ghost use Rattle.asn1_types.specs.Tags.{IsTagOf, class_named, class_written, environment_of, mode_named, mode_written};
 
 use crate::builtins::Builtin;
@@ -156,9 +157,12 @@ pub fn tagged<'a>(
     module: usize,
     tag: &'a TagNotation<'a>,
     inner: Notation,
-) -> Result<Notation, Stop> {
+) -> Result<Notation, Stop>
+    ensures { IfOk result (IsTaggedBy (environment_of r.now.scope.modules.now «module») r.now.scope.known.now r.now.tag_sets.items tag.now inner) }
+{
     let layer = layer(r, module, tag, is_untagged(r, &inner))?;
-    Ok(Notation::Tagged(layer, Box::new(r.alloc, inner)?))
+    let content = Box::new(r.alloc, inner)?;
+    Ok(Notation::Tagged(layer, content))
 }
 
 /// A notation under the automatic tag of a number.
@@ -166,9 +170,12 @@ pub fn automatically_tagged(
     r: &Resolver<'_>,
     number: usize,
     inner: Notation,
-) -> Result<Notation, Stop> {
+) -> Result<Notation, Stop>
+    ensures { IfOk result (IsTaggedAutomaticallyBy r.now.scope.known.now r.now.tag_sets.items number inner) }
+{
     let layer = automatic_layer(number as u64, is_untagged(r, &inner));
-    Ok(Notation::Tagged(layer, Box::new(r.alloc, inner)?))
+    let content = Box::new(r.alloc, inner)?;
+    Ok(Notation::Tagged(layer, content))
 }
 
 // Where the names in a constraint of a type are searched.

@@ -1,4 +1,6 @@
 //! The tags that the encodings of types begin with, and parts that no tag distinguishes (X.680, 24.5, 26.3 and 28.3).
+ghost use Rattle.std.specs.Prelude.{◌≡◌, slice_get};
+ghost use Rattle.asn1_types.specs.Untagged.{IsUntaggedAs, is_untagged_known, is_untagged_set};
 
 use crate::model::{
     Alternative, Body, Notation, Part, Place, Presence, Tag, TagClass, TagLayer, TextKind,
@@ -124,18 +126,34 @@ pub fn set_of(r: &Resolver<'_>, notation: &Notation) -> Result<TagSet, Stop> {
     }
 }
 
+// Whether a definition is of an untagged CHOICE or an open type.
+fn is_untagged_definition(r: &Resolver<'_>, index: usize) -> bool
+    ensures { result ≡ is_untagged_set (slice_get r.now.tag_sets.items index) }
+{
+    match r.tag_sets.get(index) {
+        Some(set) => set.is_untagged,
+        None => true,
+    }
+}
+
+// Whether a type of another crate is an untagged CHOICE.
+fn is_untagged_known(r: &Resolver<'_>, index: usize) -> bool
+    ensures { result ≡ is_untagged_known (slice_get r.now.scope.known.now index) }
+{
+    match r.scope.known.get(index) {
+        Some(known) => known.is_untagged,
+        None => true,
+    }
+}
+
 /// Whether a notation is of an untagged CHOICE or an open type (X.680, 30.6 c).
-pub fn is_untagged(r: &Resolver<'_>, notation: &Notation) -> bool {
+pub fn is_untagged(r: &Resolver<'_>, notation: &Notation) -> bool
+    ensures { IsUntaggedAs r.now.scope.known.now r.now.tag_sets.items notation.now result }
+{
     match notation {
         Notation::Any => true,
-        Notation::Defined(index) => match r.tag_sets.get(*index) {
-            Some(set) => set.is_untagged,
-            None => true,
-        },
-        Notation::Imported(index) => match r.scope.known.get(*index) {
-            Some(known) => known.is_untagged,
-            None => true,
-        },
+        Notation::Defined(index) => is_untagged_definition(r, *index),
+        Notation::Imported(index) => is_untagged_known(r, *index),
         _ => false,
     }
 }
