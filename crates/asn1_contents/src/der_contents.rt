@@ -10,7 +10,8 @@ use yasna_times::models::{GeneralizedTime, UTCTime};
 
 // A UTCTime in DER's form: the second is there, and the zone is Z (X.690, 11.8).
 fn utc_time(alloc: Global, contents: Vec<u8>) -> Result<Option<Vec<u8>>, AllocError>
-    ensures { IfOk result (λ o. MatchOption o ((d : List ℕ) → ¬ (IsUtcTimeOf Ber d contents.items)) (λ d. IsUtcTimeOf Ber d.items contents.items)) }
+    ensures { IfOk result (λ o. MatchOption o ((d : List ℕ) → ¬ (IsUtcTimeOf Ber d contents.items))
+        (λ d. IsUtcTimeOf Ber d.items contents.items)) }
 {
     let Some(time) = UTCTime::parse(&contents) else {
         return Ok(None);
@@ -23,7 +24,8 @@ fn utc_time(alloc: Global, contents: Vec<u8>) -> Result<Option<Vec<u8>>, AllocEr
 
 // A GeneralizedTime in DER's form: as `utc_time`, and the fraction has a point and no zeros at its end (X.690, 11.7).
 fn generalized_time(alloc: Global, contents: Vec<u8>) -> Result<Option<Vec<u8>>, AllocError>
-    ensures { IfOk result (λ o. MatchOption o ((d : List ℕ) → ¬ (IsGeneralizedTimeOf Ber d contents.items)) (λ d. IsGeneralizedTimeOf Ber d.items contents.items)) }
+    ensures { IfOk result (λ o. MatchOption o ((d : List ℕ) → ¬ (IsGeneralizedTimeOf Ber d contents.items))
+        (λ d. IsGeneralizedTimeOf Ber d.items contents.items)) }
 {
     let Some(moment) = GeneralizedTime::parse(alloc, &contents)? else {
         return Ok(None);
@@ -43,7 +45,8 @@ pub fn der_contents(
     contents_type: ContentsType,
     contents: Vec<u8>,
 ) -> Result<Option<Vec<u8>>, AllocError>
-    ensures { IfOk result (λ o. MatchOption o ((d : List ℕ) → ¬ (HasContents contents_type Ber d contents.items)) (λ d. HasContents contents_type Ber d.items contents.items)) }
+    ensures { IfOk result (λ o. MatchOption o ((d : List ℕ) → ¬ (HasContents contents_type Ber d contents.items))
+        (λ d. HasContents contents_type Ber d.items contents.items)) }
 {
     match contents_type {
         ContentsType::UtcTime => utc_time(alloc, contents),

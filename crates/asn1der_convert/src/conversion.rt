@@ -25,7 +25,7 @@ ghost use Rattle.asn1der_convert.specs.Tags.{IsOtherTag, IsOtherPrimitive, IsOth
 use crate::ambiguity::Ambiguities;
 use crate::contents_class::{ContentsClass, class_of, is_constructed_type, is_primitive_type};
 use crate::der_element::DerElement;
-use crate::error::{ConvertError, contents_error, offset_of};
+use crate::error::{ConvertError, contents_error, expected_of, offset_of};
 use crate::segments::{StringKind, string_error};
 use crate::set_order::put_in_order;
 use crate::writing::{element, joined};
@@ -134,7 +134,7 @@ fn primitive_element(
 {
     let contents_type = contents_type(tag);
     let Some(contents) = der_contents(alloc, contents_type, contents)? else {
-        return Err(contents_error(cursor, contents_type));
+        return Err(contents_error(cursor, expected_of(contents_type)));
     };
     element(alloc, tag, PCBit::Primitive, contents)
 }

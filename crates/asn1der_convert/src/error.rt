@@ -1,6 +1,6 @@
 //! The errors of the conversion.
 ghost use Rattle.std.specs.Prelude.{◌≡◌, ◌↔◌, ◌-◌, length, None};
-ghost use Rattle.yasna_base.specs.declared.error.ASN1ErrorKind.TheVariants.{OutOfMemory};
+ghost use Rattle.yasna_base.specs.declared.error.ASN1ErrorKind.TheVariants.{Invalid, OutOfMemory};
 ghost use Rattle.asn1der_convert.specs.declared.error.ConvertError.TheVariants.{Malformed, Memory};
 
 use asn1_contents::contents_type::ContentsType;
@@ -75,8 +75,8 @@ pub fn offset_of(cursor: Cursor<'_>) -> usize
     cursor.end.saturating_sub(cursor.left.len())
 }
 
-// What is expected of the contents of a type.
-fn expected_of(contents_type: ContentsType) -> Option<Expected> {
+/// What is expected of the contents of a type.
+pub fn expected_of(contents_type: ContentsType) -> Option<Expected> {
     match contents_type {
         ContentsType::Number => Some(Expected::Number),
         ContentsType::Nothing => Some(Expected::Nothing),
@@ -89,13 +89,13 @@ fn expected_of(contents_type: ContentsType) -> Option<Expected> {
 }
 
 /// The error of the element that begins here, if its contents aren't those of its type, or have no form in DER.
-pub fn contents_error(cursor: Cursor<'_>, contents_type: ContentsType) -> ConvertError
-    ensures { result ≡ Memory → ⊥ }
+pub fn contents_error(cursor: Cursor<'_>, expected: Option<Expected>) -> ConvertError
+    ensures { result ≡ Malformed (cursor.entry.end - length cursor.entry.left.now) Invalid expected }
 {
     ConvertError::Malformed {
         offset: offset_of(cursor),
         kind: ASN1ErrorKind::Invalid,
-        expected: expected_of(contents_type),
+        expected,
     }
 }
 
