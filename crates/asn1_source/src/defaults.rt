@@ -70,7 +70,7 @@ static ITEM: DefaultTexts = DefaultTexts {
     name: "&",
     test: "(λ v. int_eq ($_number v) ^)",
     value: "&Value",
-    detects: "(λ v. detects_integer ^ ($_number v))",
+    detects: "($_detects &Value)",
     same: "@L.own.coding.meaning.equal",
 };
 

@@ -355,7 +355,7 @@ impl DefaultValue<@B> for @X {
         @C::@v
     }
 
-    ghost detects = { λ v. detects_integer @n (@P_number v) };
+    ghost detects = { @P_detects @XValue };
 
     ghost tests = { λ v. refl };
 }
@@ -372,6 +372,8 @@ use Rattle.std.specs.Prelude.{◌↔◌}
 use Rattle.std.specs.Int.{w64}
 use Rattle.std.specs.List.{list_any}
 use Rattle.std.specs.Ordering.{int_eq}
+use Rattle.std.proofs.lemmas.Bool.Decides.{Decides-int_eq}
+use Rattle.yasna_base.specs.Default.{DetectsDefault}
 use Rattle.@K.specs.declared.@F.@N.{@N}
 use Rattle.@K.specs.declared.@F.@N.TheVariants.{@G}
 
@@ -387,13 +389,20 @@ abbrev pub @P_allowed : @N → Type 0
 @P_allowed v = Unit {0}
 
 pub @P_writable : (v : @N) → @P_allowed v ↔ (FitsSigned w64 (@P_number v) × (@P_named (@P_number v) ≡ true))
-@4";
+@4
+-- values with the number of a value are equal to it
+pub @P_detects : (d : @N) → DetectsDefault (λ v w. @P_number v ≡ @P_number w) (λ v. int_eq (@P_number v) (@P_number d)) d
+@P_detects d v = Decides-int_eq (@P_number v) (@P_number d)
+";
 
 /// The specs of an extensible enum, whose last variant has any other number.
 pub static OPEN_ENUMERATION_SPECS: &str = "-- The numbers of `@a`.
 use Rattle.std.proofs.Common.{◌≡◌, ℤ, Bool, true, pos, negsuc, refl, FitsSigned}
 use Rattle.std.specs.Prelude.{◌↔◌}
 use Rattle.std.specs.Int.{w64}
+use Rattle.std.specs.Ordering.{int_eq}
+use Rattle.std.proofs.lemmas.Bool.Decides.{Decides-int_eq}
+use Rattle.yasna_base.specs.Default.{DetectsDefault}
 use Rattle.@K.specs.declared.@F.@N.{@N}
 use Rattle.@K.specs.declared.@F.@N.TheVariants.{@G}
 
@@ -409,4 +418,8 @@ abbrev pub @P_allowed : @N → Type 0
 
 pub @P_writable : (v : @N) → @P_allowed v ↔ (FitsSigned w64 (@P_number v) × (@P_named (@P_number v) ≡ true))
 @P_writable v = (λ f. (f, refl), λ x. x.0)
+
+-- values with the number of a value are equal to it
+pub @P_detects : (d : @N) → DetectsDefault (λ v w. @P_number v ≡ @P_number w) (λ v. int_eq (@P_number v) (@P_number d)) d
+@P_detects d v = Decides-int_eq (@P_number v) (@P_number d)
 ";

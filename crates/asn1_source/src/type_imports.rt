@@ -35,7 +35,11 @@ static LAW_LINES: [Line; 3] = [
     },
 ];
 
-static NUMBER_LINES: [Line; 3] = [
+static NUMBER_LINES: [Line; 4] = [
+    Line {
+        ending: "_detects",
+        text: "ghost use Rattle.@K.specs.@N.{@P_detects};\n",
+    },
     Line {
         ending: "_number",
         text: "ghost use Rattle.@K.specs.@N.{@P_number};\n",
