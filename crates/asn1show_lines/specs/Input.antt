@@ -1,62 +1,18 @@
--- The formats of an input.
-use Rattle.std.specs.Prelude.{◌≡◌, ◌⊎◌, ◌≤◌, ◌-◌, ℕ, List, ◌∷◌, ◌++◌, length, Option, Some, None, IsTrue}
-use Rattle.std.specs.Char.{is_ascii_hexdigit}
-use Rattle.std.specs.List.{AllByRecursion, Any}
+-- What an input holds: elements, in each format.
+use Rattle.std.specs.Prelude.{◌⊎◌, ◌-◌, ℕ, List, length}
 use Rattle.yasna_base.specs.Grammar.{max_depth}
 use Rattle.yasna_base.specs.declared.error.ASN1ErrorKind.{ASN1ErrorKind}
 use Rattle.yasna_base.specs.declared.mode.BERMode.{BERMode}
-use Rattle.asn1show_lines.specs.Text.{is_in_hex, text_of, IsHex, IsNoHex}
-use Rattle.asn1show_lines.specs.Blocks.{begin_boundary, lines_of, unindented, IsPem}
-use Rattle.asn1show_lines.specs.declared.input_format.InputFormat.{InputFormat}
-use Rattle.asn1show_lines.specs.declared.input_format.InputFormat.TheVariants.{Bytes, Hex, Pem}
+use Rattle.asn1_input.specs.Text.{text_of, IsHex, IsNoHex}
+use Rattle.asn1_input.specs.Input.{HoldsEach}
+use Rattle.asn1_input.specs.declared.input_format.InputFormat.{InputFormat}
+use Rattle.asn1_input.specs.declared.input_format.InputFormat.TheVariants.{Bytes, Hex, Pem}
 use Rattle.asn1show_walk.specs.Reading.{NoElements}
 use Rattle.asn1show_walk.specs.WellFormed.{AreElements}
 
--- an octet of text: printed, a tab, a form feed or the end of a line
-abbrev pub IsText : ℕ → Type 0
-IsText c = ((c ≡ 9) ⊎ (c ≡ 12) ⊎ (c ≡ 13)) ⊎ ((32 ≤ c) × (c ≡ 127 → ⊥))
-
--- a line begins as the first line of a block does; it may be indented
-abbrev pub BeginsAsBlock : List ℕ → Type 0
-BeginsAsBlock line = (others : List ℕ) × (unindented line ≡ begin_boundary ++ others)
-
--- after lines of text a line begins so
-pub record HasBoundary (lines : List (List ℕ)) : Type 0 where
-  pub before : List (List ℕ)
-  pub line : List ℕ
-  pub after : List (List ℕ)
-  pub joined : lines ≡ before ++ (line ∷ after)
-  pub begins : BeginsAsBlock line
-  pub texts : AllByRecursion (AllByRecursion IsText) before
-
-abbrev pub BeginsAfterText : List ℕ → Type 0
-BeginsAfterText text = HasBoundary (lines_of text)
-
--- a text is hexadecimal digits and separators
-pub record AreHexDigits (text : List ℕ) : Type 0 where
-  pub all : AllByRecursion (λ c. IsTrue (is_in_hex c)) text
-  pub some : Any (λ c. IsTrue (is_ascii_hexdigit c)) text
-
--- the format that a text is detected as
-abbrev pub IsDetectedIn : List ℕ → InputFormat → Type 0
-IsDetectedIn text Pem = BeginsAfterText text
-IsDetectedIn text Hex = (BeginsAfterText text → ⊥) × AreHexDigits text
-IsDetectedIn text Bytes = (BeginsAfterText text → ⊥) × (AreHexDigits text → ⊥)
-
--- the format that an input is detected as: that of its text
-abbrev pub IsDetected : List ℕ → InputFormat → Type 0
-IsDetected input input_format = IsDetectedIn (text_of input) input_format
-
--- the format that an input is read in: the given one, else the detected one
-abbrev pub IsTakenAs : Option InputFormat → List ℕ → InputFormat → Type 0
-IsTakenAs (Some given) input input_format = input_format ≡ given
-IsTakenAs None input input_format = IsDetected input input_format
-
 -- an input in this format encodes one or more well-formed elements, and in PEM each block does
 abbrev pub HoldsElements : BERMode → InputFormat → List ℕ → Type 0
-HoldsElements mode Bytes input = AreElements max_depth mode input
-HoldsElements mode Hex input = (bytes : List ℕ) × IsHex (text_of input) bytes × AreElements max_depth mode bytes
-HoldsElements mode Pem input = (blocks : List (List ℕ)) × IsPem (text_of input) blocks × AllByRecursion (AreElements max_depth mode) blocks
+HoldsElements mode input_format input = HoldsEach (AreElements max_depth mode) input_format input
 
 -- an input in this format doesn't encode well-formed elements, with the offset and the kind of the error
 abbrev pub HoldsNone : BERMode → InputFormat → List ℕ → ℕ → ASN1ErrorKind → Type 0

@@ -1,4 +1,1 @@
-pub mod Text
-pub mod Blocks
 pub mod Input
-pub mod Reader

@@ -1,24 +1,16 @@
 //! The lines that show ASN.1 bytes, one for each element.
 //!
-//! It is part of the program `asn1show`.
+//! It is part of the program `asn1show`. `asn1_input` has the bytes of an input.
 //!
 //! | Module | Holds |
 //! |---|---|
-//! | `input_format` | the format of an input |
-//! | `digits` | bytes from digits, in hexadecimal and in base64 |
-//! | `block` | the bytes of a block of PEM, from its lines |
-//! | `pem` | blocks of PEM, line by line |
 //! | `lines` | an input from its text to its lines |
 #![tactic(auto)]
 
-mod block;
-mod digits;
-mod input_format;
 mod lines;
-mod pem;
 
+pub use asn1_input::InputFormat;
 pub use asn1show_printer::{
     Conformance, Extent, Layout, Numbers, Output, Part, Schema, Selection, View,
 };
-pub use input_format::InputFormat;
 pub use lines::show;

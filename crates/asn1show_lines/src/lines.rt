@@ -2,17 +2,16 @@
 ghost use Rattle.std.specs.Prelude.{◌≡◌, ◌≢◌, ◌⊎◌, ◌≤◌, true, false, length, IfErr, OnOk, None, Some};
 ghost use Rattle.yasna_base.specs.Grammar.{max_depth};
 ghost use Rattle.yasna_base.specs.Raw.{IsRaw, IsJoining};
-ghost use Rattle.asn1show_lines.specs.Input.{IsTakenAs, HoldsElements, HoldsNone};
-ghost use Rattle.asn1show_lines.specs.Reader.{has_any, open_lines, BlockFails, BlockHolds, GoesOn, IsFirstError, NeverComes};
-ghost use Rattle.asn1show_lines.specs.declared.input_format.InputFormat.{InputFormat};
-ghost use Rattle.asn1show_lines.specs.declared.input_format.InputFormat.TheVariants.{Bytes, Hex, Pem};
+ghost use Rattle.asn1_input.specs.Input.{IsTakenAs};
+ghost use Rattle.asn1show_lines.specs.Input.{HoldsElements, HoldsNone};
+ghost use Rattle.asn1_input.specs.Reader.{has_any, open_lines, BlockFails, BlockHolds, GoesOn, IsFirstError, NeverComes};
+ghost use Rattle.asn1_input.specs.declared.input_format.InputFormat.{InputFormat};
+ghost use Rattle.asn1_input.specs.declared.input_format.InputFormat.TheVariants.{Bytes, Hex, Pem};
 ghost use Rattle.asn1show_walk.specs.Errors.{IsExternal, WalkFails};
 ghost use Rattle.asn1show_walk.specs.Reading.{NoElements};
 ghost use Rattle.asn1show_walk.specs.WellFormed.{AreElements};
 
-use crate::digits::{decode_hex, text_of};
-use crate::input_format::{InputFormat, format_of};
-use crate::pem::{Block, PemReader, cut_line};
+use asn1_input::{Block, InputFormat, PemReader, cut_line, decode_hex, format_of, text_of};
 use asn1show_json::JsonPrinter;
 use asn1show_printer::{
     Layout, LineBuffer, Names, Output, Printer, Source, Style, View, write_quoted,

@@ -1,10 +1,11 @@
 use Rattle.std.proofs.Common.{◌≡◌, IfErr, subst}
 use Rattle.asn1show_walk.specs.Errors.{IsExternal, WalkFails}
-use Rattle.asn1show_lines.specs.Input.{HoldsNone, IsTakenAs}
-use Rattle.asn1show_lines.specs.Text.{text_of}
-use Rattle.asn1show_lines.specs.declared.input_format.InputFormat.TheVariants.{Bytes}
-use Rattle.asn1show_lines.proofs.Detected.{detected_once}
-use Rattle.asn1show_lines.proofs.Taking.{on_ok_both}
+use Rattle.asn1_input.specs.Input.{IsTakenAs}
+use Rattle.asn1show_lines.specs.Input.{HoldsNone}
+use Rattle.asn1_input.specs.Text.{text_of}
+use Rattle.asn1_input.specs.declared.input_format.InputFormat.TheVariants.{Bytes}
+use Rattle.asn1_input.proofs.Detected.{detected_once}
+use Rattle.asn1_input.proofs.Taking.{on_ok_both}
 use Rattle.asn1show_lines.proofs.lines.show.Goals as goal
 
 pub returns-clause-raw : goal.returns-clause-raw

@@ -1,10 +1,10 @@
 use Rattle.std.proofs.Common.{◌≡◌, ◌∙◌, ◌∷◌, None, Ok, Some, ap, subst}
 use Rattle.asn1show_walk.specs.WellFormed.{AreElements}
-use Rattle.asn1show_lines.specs.Blocks.{lines_left}
+use Rattle.asn1_input.specs.Blocks.{lines_left}
 use Rattle.asn1show_lines.specs.Input.{HoldsElements}
-use Rattle.asn1show_lines.specs.Reader.{IsFirstError}
-use Rattle.asn1show_lines.specs.declared.input_format.InputFormat.TheVariants.{Pem}
-use Rattle.asn1show_lines.proofs.FirstError.{StillHolds, after_line, ends_badly, ends_well}
+use Rattle.asn1_input.specs.Reader.{IsFirstError}
+use Rattle.asn1_input.specs.declared.input_format.InputFormat.TheVariants.{Pem}
+use Rattle.asn1_input.proofs.FirstError.{StillHolds, after_line, ends_badly, ends_well}
 use Rattle.asn1show_lines.proofs.lines.show_blocks.Goals as goal
 
 pub loop-left-preserved : goal.loop-left-preserved

@@ -1,9 +1,9 @@
-use Rattle.asn1show_lines.specs.Blocks.{lines_left}
+use Rattle.asn1_input.specs.Blocks.{lines_left}
 use Rattle.asn1show_lines.specs.Input.{HoldsElements}
-use Rattle.asn1show_lines.specs.declared.input_format.InputFormat.TheVariants.{Pem}
+use Rattle.asn1_input.specs.declared.input_format.InputFormat.TheVariants.{Pem}
 use Rattle.asn1show_walk.specs.WellFormed.{AreElements}
-use Rattle.asn1show_lines.proofs.Cut.{size_left}
-use Rattle.asn1show_lines.proofs.FirstError.{StillHolds}
+use Rattle.asn1_input.proofs.Cut.{size_left}
+use Rattle.asn1_input.proofs.FirstError.{StillHolds}
 use Rattle.asn1show_lines.proofs.lines.show_blocks.Given as goal
 
 -- the input says elements exactly if the lines that are left say what is awaited, unless there was an error

@@ -1,0 +1,5 @@
+pub mod Text
+pub mod Blocks
+pub mod Input
+pub mod Reader
+pub mod Pieces

@@ -1,0 +1,83 @@
+//! The format of an input.
+ghost use Rattle.std.specs.Prelude.{◌↔◌, IsTrue, Any};
+ghost use Rattle.std.specs.Char.{is_ascii_hexdigit};
+ghost use Rattle.std.specs.List.{AllByRecursion};
+ghost use Rattle.asn1_input.specs.Input.{BeginsAfterText, AreHexDigits, IsDetected, IsDetectedIn, IsText};
+ghost use Rattle.asn1_input.specs.Text.{is_in_hex};
+
+use crate::digits::{is_in_hex, text_of};
+use crate::pem::{begins_as_block, cut_line};
+
+/// The format of an input.
+#[derive(Clone, Copy)]
+pub enum InputFormat {
+    /// The bytes themselves.
+    Bytes,
+    /// Hexadecimal digits, with spaces, line ends, colons and commas between them. A byte order mark may be before.
+    Hex,
+    /// Blocks in base64 between lines, with any text around them. A byte order mark may be before.
+    Pem,
+}
+
+fn is_text(line: &[u8]) -> bool
+    ensures { IsTrue result ↔ AllByRecursion IsText line.now }
+{
+    line.iter().all(|octet| matches!(*octet, 9 | 12 | 13) || (*octet >= 32 && *octet != 127))
+}
+
+// Whether a block begins after lines of text.
+fn has_block(input: &[u8]) -> bool
+    ensures { IsTrue result ↔ BeginsAfterText input.now }
+{
+    let mut left = Some(input);
+    while let Some(text) = left {
+        let (line, after) = cut_line(text);
+        if begins_as_block(line) {
+            return true;
+        }
+        if !is_text(line) {
+            return false;
+        }
+        left = after;
+    }
+    false
+}
+
+fn has_digit(input: &[u8]) -> bool
+    ensures { IsTrue result ↔ Any (λ c. IsTrue (is_ascii_hexdigit c)) input.now }
+{
+    input.iter().any(|octet| octet.is_ascii_hexdigit())
+}
+
+// Whether a text is only digits, and what may be between them.
+fn are_digits(input: &[u8]) -> bool
+    ensures { IsTrue result ↔ AllByRecursion (λ c. IsTrue (is_in_hex c)) input.now }
+{
+    input.iter().all(|octet| is_in_hex(*octet))
+}
+
+fn is_hexadecimal(input: &[u8]) -> bool
+    ensures { IsTrue result ↔ AreHexDigits input.now }
+{
+    are_digits(input) && has_digit(input)
+}
+
+// The format of a text.
+fn text_format(text: &[u8]) -> InputFormat
+    ensures { IsDetectedIn text.now result }
+{
+    if has_block(text) {
+        InputFormat::Pem
+    } else if is_hexadecimal(text) {
+        InputFormat::Hex
+    } else {
+        InputFormat::Bytes
+    }
+}
+
+/// Detects the format of an input.
+pub fn format_of(input: &[u8]) -> InputFormat
+    ensures { IsDetected input.now result }
+{
+    text_format(text_of(input))
+}
