@@ -26,4 +26,6 @@ compare() {
     fi
 }
 compare pkcs10 PKCS-10.asn1 --use x509
+compare rsa_keys PKCS-1.asn1
+compare ec_keys ECPrivateKey.asn1
 python3 ci/modules.py "$passed" "$failed"

@@ -8,8 +8,11 @@ use crate::named_bits::{is_key_usage, is_reason_flags};
 use crate::parts::is_in_a_sequence;
 use crate::texts::Texts;
 use cms::{ContentInfo, EnvelopedData, SignedData};
+use ec_keys::EcPrivateKey;
 use ldap::{Filter, LdapMessage};
 use pkcs8::{OneAsymmetricKey, PrivateKeyInfo};
+use pkcs10::CertificationRequest;
+use rsa_keys::{RsaPrivateKey, RsaPublicKey};
 use snmp::{v1, v2c};
 use std::alloc::Global;
 use x509::{Certificate, CertificateList};
@@ -26,6 +29,10 @@ pub enum Kind {
     SignedList,
     PrivateKeyInfo,
     OneAsymmetricKey,
+    CertificationRequest,
+    RsaPublicKey,
+    RsaPrivateKey,
+    EcPrivateKey,
     ContentInfo,
     /// The SignedData that ends a ContentInfo.
     SignedData,
@@ -67,6 +74,13 @@ fn is_so(alloc: Global, kind: Kind, bytes: &[u8], claim: Claim) -> bool {
         Kind::SignedList => is_signed(alloc, bytes, claim, true),
         Kind::PrivateKeyInfo => holds::<Encoded<PrivateKeyInfo>>(alloc, bytes, claim),
         Kind::OneAsymmetricKey => holds_or_says::<Encoded<OneAsymmetricKey>>(alloc, bytes, claim),
+        Kind::CertificationRequest => holds::<Encoded<CertificationRequest>>(alloc, bytes, claim),
+        Kind::RsaPublicKey => holds::<Encoded<RsaPublicKey>>(alloc, bytes, claim),
+        Kind::RsaPrivateKey => match claim {
+            Claim::Becomes(encoding) => becomes::<Encoded<RsaPrivateKey>>(alloc, bytes, encoding),
+            _ => holds::<Encoded<RsaPrivateKey>>(alloc, bytes, claim),
+        },
+        Kind::EcPrivateKey => holds::<Encoded<EcPrivateKey>>(alloc, bytes, claim),
         Kind::ContentInfo => holds_or_says::<Encoded<ContentInfo>>(alloc, bytes, claim),
         Kind::SignedData => holds::<Encoded<SignedData>>(alloc, content_of(bytes), claim),
         Kind::EnvelopedData => holds::<Encoded<EnvelopedData>>(alloc, content_of(bytes), claim),

@@ -14,6 +14,7 @@
 //! | `named_bits` | the named bits of `x509` |
 //! | `parts` | a SEQUENCE of parts that are pairs |
 //! | `prepended` | bit strings, numbers and a type without bodies of its own, prepended to a buffer |
+//! | `rsa_and_ec_keys` | keys of `rsa_keys` and `ec_keys`, and requests of `pkcs10` |
 //! | `snmp_messages` | messages of `snmp` |
 //! | `texts` | a type of texts, made for these tests |
 #![tactic(auto)]
@@ -42,6 +43,8 @@ mod named_bits;
 mod parts;
 #[cfg(test)]
 mod prepended;
+#[cfg(test)]
+mod rsa_and_ec_keys;
 #[cfg(test)]
 mod snmp_messages;
 #[cfg(test)]
