@@ -58,8 +58,16 @@ IS_UNKNOWN = """unknown.asn1:4:11: this name is neither assigned nor imported
         first Missing }
               ^
 """
+IS_MISSING = "Missing: no type has this name\n"
 # What is said of a copy of a crate that differs.
-IS_OTHER = "copies/pkcs10/src/attributes.rt: it differs from what the module gives\n"
+IS_OTHER = """copies/pkcs10/src/attributes.rt:41:40: the modules give <Notated as Notation>::has_tag(tag)
+            <Notated as Notation>::has_tag(other)
+                                           ^
+"""
+IS_MORE = """copies/pkcs10/src/attributes.rt:75:1: the modules give nothing more
+    fn more() {}
+    ^
+"""
 MODULES = {"first": FIRST, "second": SECOND, "loose": LOOSE, "malformed": MALFORMED, "unknown": UNKNOWN}
 
 
@@ -80,10 +88,13 @@ def ends(folder):
     yield "standard input", run(folder, "--list", "-", given=SECOND), (0, f"{FLAGS}{ALONE}", "")
     yield "a type that accepts more", run(folder, "--list", "loose.asn1"), (0, f"{KNOWN}{CODE}", "")
     yield "it with --strict", run(folder, "--list", "--strict", "loose.asn1"), (1, f"{KNOWN}{CODE}", IS_LOOSE)
+    yield "another type", run(folder, "--list", "--strict", "--type", "Known", "loose.asn1"), (0, KNOWN, "")
     yield "what isn't ASN.1", run(folder, "--list", "malformed.asn1"), (1, "", IS_MALFORMED)
     yield "a name that isn't defined", run(folder, "--list", "unknown.asn1"), (1, KNOWN, IS_UNKNOWN)
+    yield "a type that isn't there", run(folder, "--list", "--type", "Missing", "first.asn1", "second.asn1"), (1, "", IS_MISSING)
     yield "a file that isn't there", run(folder, "--list", "missing.asn1")[0], 3
     yield "no file", run(folder, "--list")[0], 2
+    yield "two tasks", run(folder, "--list", "--check", "first.asn1")[0], 2
 
 
 def crates(folder):
@@ -93,6 +104,8 @@ def crates(folder):
     yield "its files", written(out / "all"), ["src/alone.rt", "src/flags.rt", "src/lib.rt", "src/report.rt"]
     yield "a type and those that it names", run(folder, "--crate", "some", "--type", "Report", "first.asn1", "second.asn1")[0], 0
     yield "their files", written(out / "some"), ["src/flags.rt", "src/lib.rt", "src/report.rt"]
+    yield "what is rejected with --strict", run(folder, "--crate", "none", "--strict", "loose.asn1")[0], 1
+    yield "no file of it", written(out / "none"), []
 
 
 def comparisons(folder):
@@ -106,11 +119,11 @@ def comparisons(folder):
     source.write_text(text.replace("::has_tag(tag)", "::has_tag(other)"))
     yield "another word", run(folder, *words), (1, "", IS_OTHER)
     source.write_text(text + "\nfn more() {}\n")
-    yield "a function more", run(folder, *words), (1, "", IS_OTHER)
+    yield "a function more", run(folder, *words), (1, "", IS_MORE)
     source.write_text(text.replace("\n    ", "\n\t"))
     yield "another layout", run(folder, *words), (0, "", "")
     source.unlink()
-    yield "a file less", run(folder, *words)[0], 3
+    yield "a file less", run(folder, *words)[0], 1
 
 
 def main(passed, failed):

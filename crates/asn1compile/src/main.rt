@@ -10,27 +10,27 @@
 //! | Module | Holds |
 //! |---|---|
 //! | `options` | the options of the command line |
-//! | `looser` | where types accept more than their modules |
+//! | `type_reports` | what is printed of types: where they accept more than their modules, and which aren't there |
 //! | `output` | the files of a crate: they are written, or compared with those that are there |
 #![tactic(auto)]
 
-mod looser;
 mod options;
 mod output;
+mod type_reports;
 
 use asn1_source::{
     CrateSource, ModuleSource, SourceFile, crate_line, known_names, known_types, list_of, names_of,
     reached, source_of, sources_of,
 };
-use asn1_types::model::{Definition, KnownType, Resolved};
+use asn1_types::model::{KnownType, Resolved};
 use asn1_types::resolve;
-use looser::report_looser;
 use module_files::{ModuleFile, Modules, parse_files, read_files, report_problems};
 use options::{Options, options_of};
 use output::{check_files, write_files};
 use program_io::{ProgramError, arguments, explain, report, write_output};
 use std::alloc::{AllocError, Global};
 use std::process::ExitCode;
+use type_reports::{report_looser, report_unknown};
 
 // The exit status after an I/O error, or if memory ran out.
 const IO_ERROR: u8 = 3;
@@ -93,7 +93,42 @@ fn emit(rt: &HostRuntime, options: &Options<'_>, source: &CrateSource<'_, '_>) -
     }
 }
 
-// The crate of definitions. Else memory ran out.
+// Prints where wanted types accept more than the modules, and returns the status.
+fn judge(
+    rt: &HostRuntime,
+    files: &[ModuleFile<'_>],
+    modules: &Modules<'_>,
+    source: &CrateSource<'_, '_>,
+) -> u8 {
+    let mut status = 0;
+    for (definition, is_wanted) in source.definitions.iter().zip(source.wanted.iter()) {
+        if *is_wanted {
+            let one = report_looser(rt, files, modules, definition.looser.as_slice());
+            status = one.max(status);
+        }
+    }
+    status
+}
+
+// Prints what keeps a crate from being written: a type that isn't there, and with `--strict` one that accepts more than its module.
+// Returns the status.
+fn obstacles(
+    rt: &HostRuntime,
+    options: &Options<'_>,
+    files: &[ModuleFile<'_>],
+    modules: &Modules<'_>,
+    source: &CrateSource<'_, '_>,
+) -> u8 {
+    let types = options.types().unwrap_or(&[]);
+    let unknown = report_unknown(rt, types, source.definitions);
+    if options.strict {
+        unknown.max(judge(rt, files, modules, source))
+    } else {
+        unknown
+    }
+}
+
+// The crate of definitions, or its list. Else memory ran out.
 fn compile<'a>(
     rt: &HostRuntime,
     options: &Options<'_>,
@@ -116,24 +151,11 @@ fn compile<'a>(
         wanted.as_slice(),
         resolved.constants.as_slice(),
     );
-    Ok(emit(rt, options, &source))
-}
-
-// Prints what is looser than the modules, and returns the status.
-fn judge(
-    rt: &HostRuntime,
-    files: &[ModuleFile<'_>],
-    modules: &Modules<'_>,
-    definitions: &[Definition<'_>],
-) -> u8 {
-    let mut status = 0;
-    for definition in definitions {
-        let one = report_looser(rt, files, modules, definition.looser.as_slice());
-        if one > status {
-            status = one;
-        }
+    let status = obstacles(rt, options, files, modules, &source);
+    if status != 0 && !options.list {
+        return Ok(status);
     }
-    status
+    Ok(status.max(emit(rt, options, &source)))
 }
 
 // Compiles resolved modules, and returns the status.
@@ -144,11 +166,7 @@ fn run_resolved<'a>(
     modules: &'a Modules<'a>,
     resolved: &Resolved<'a>,
 ) -> u8 {
-    let definitions = resolved.definitions.as_slice();
-    let mut rejected = report_problems(rt, files, modules, resolved.problems.as_slice());
-    if options.strict {
-        rejected = rejected.max(judge(rt, files, modules, definitions));
-    }
+    let rejected = report_problems(rt, files, modules, resolved.problems.as_slice());
     match compile(rt, options, files, modules, resolved) {
         Ok(status) => rejected.max(status),
         Err(_) => ProgramError::Memory.report(rt),
