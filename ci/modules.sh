@@ -28,4 +28,6 @@ compare() {
 compare pkcs10 PKCS-10.asn1 --use x509
 compare rsa_keys PKCS-1.asn1
 compare ec_keys ECPrivateKey.asn1
+compare ocsp OCSP.asn1 --use x509 --type OCSPRequest --type OCSPResponse --type BasicOCSPResponse modules/PKIX1Implicit88.asn1
+compare tsp TSP.asn1 --use x509 --type TimeStampReq --type TimeStampResp --type TSTInfo modules/PKIX1Implicit88.asn1
 python3 ci/modules.py "$passed" "$failed"

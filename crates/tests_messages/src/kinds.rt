@@ -1,7 +1,7 @@
 //! What a row is, and by what its kind is checked.
 
 use crate::certificates::is_signed;
-use crate::checks::{Claim, becomes, bytes_of, holds, holds_or_says};
+use crate::checks::{Claim, becomes, bytes_of, holds, holds_of_message, holds_or_says};
 use crate::keys::{is_content, is_raw};
 use crate::messages::{Part, is_part};
 use crate::named_bits::{is_key_usage, is_reason_flags};
@@ -10,11 +10,13 @@ use crate::texts::Texts;
 use cms::{ContentInfo, EnvelopedData, SignedData};
 use ec_keys::EcPrivateKey;
 use ldap::{Filter, LdapMessage};
+use ocsp::{BasicOcspResponse, OcspRequest, OcspResponse};
 use pkcs8::{OneAsymmetricKey, PrivateKeyInfo};
 use pkcs10::CertificationRequest;
 use rsa_keys::{RsaPrivateKey, RsaPublicKey};
 use snmp::{v1, v2c};
 use std::alloc::Global;
+use tsp::{TimeStampReq, TimeStampResp, TstInfo};
 use x509::{Certificate, CertificateList};
 use yasna_notation::Encoded;
 
@@ -48,6 +50,12 @@ pub enum Kind {
     LdapFilter,
     SnmpV1,
     SnmpV2c,
+    OcspRequest,
+    OcspResponse,
+    BasicOcspResponse,
+    TimeStampReq,
+    TimeStampResp,
+    TstInfo,
     KeyUsage,
     ReasonFlags,
     /// A part of a message.
@@ -99,6 +107,12 @@ fn is_so(alloc: Global, kind: Kind, bytes: &[u8], claim: Claim) -> bool {
             ),
             _ => holds_or_says::<Encoded<v2c::SnmpMessage>>(alloc, bytes, claim),
         },
+        Kind::OcspRequest => holds_of_message::<OcspRequest>(alloc, bytes, claim),
+        Kind::OcspResponse => holds_of_message::<OcspResponse>(alloc, bytes, claim),
+        Kind::BasicOcspResponse => holds_of_message::<BasicOcspResponse>(alloc, bytes, claim),
+        Kind::TimeStampReq => holds_of_message::<TimeStampReq>(alloc, bytes, claim),
+        Kind::TimeStampResp => holds_of_message::<TimeStampResp>(alloc, bytes, claim),
+        Kind::TstInfo => holds_of_message::<TstInfo>(alloc, bytes, claim),
         Kind::KeyUsage => is_key_usage(alloc, bytes, claim),
         Kind::ReasonFlags => is_reason_flags(alloc, bytes, claim),
         Kind::Part(part) => is_part(alloc, part, bytes, claim),

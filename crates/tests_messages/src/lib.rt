@@ -12,11 +12,13 @@
 //! | `ldap_messages` | messages of `ldap` |
 //! | `messages` | types of `x509` and `snmp`, which are made of types |
 //! | `named_bits` | the named bits of `x509` |
+//! | `ocsp_messages` | requests and responses of `ocsp` |
 //! | `parts` | a SEQUENCE of parts that are pairs |
 //! | `prepended` | bit strings, numbers and a type without bodies of its own, prepended to a buffer |
 //! | `rsa_and_ec_keys` | keys of `rsa_keys` and `ec_keys`, and requests of `pkcs10` |
 //! | `snmp_messages` | messages of `snmp` |
 //! | `texts` | a type of texts, made for these tests |
+//! | `time_stamps` | requests and responses of `tsp` |
 #![tactic(auto)]
 
 #[cfg(test)]
@@ -40,6 +42,8 @@ mod messages;
 #[cfg(test)]
 mod named_bits;
 #[cfg(test)]
+mod ocsp_messages;
+#[cfg(test)]
 mod parts;
 #[cfg(test)]
 mod prepended;
@@ -49,3 +53,5 @@ mod rsa_and_ec_keys;
 mod snmp_messages;
 #[cfg(test)]
 mod texts;
+#[cfg(test)]
+mod time_stamps;

@@ -1,0 +1,2 @@
+pub mod CrlReason
+pub mod OcspResponseStatus
