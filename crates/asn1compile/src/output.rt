@@ -1,7 +1,7 @@
 //! The files of a crate: they are written, or compared with those that are there.
 
-use crate::location::{locate, report_at};
 use asn1_source::SourceFile;
+use module_files::{locate, report_at};
 use program_io::report;
 use std::io::ErrorKind;
 use std::{fs, io, str};

@@ -10,4 +10,4 @@ mod files;
 mod location;
 
 pub use files::{ModuleFile, Modules, parse_files, read_files, report_place, report_problems};
-pub use location::report_at;
+pub use location::{Location, locate, report_at};
