@@ -11,6 +11,7 @@ ghost use Rattle.yasna_notation.specs.Making.{in_choice};
 ghost use Rattle.yasna_notation.specs.Notation.{represented_by};
 ghost use Rattle.yasna_notation.specs.contracts.simple.ObjectIdentifierNotation.TheImpl.Laws.{lawful-law as oid_law, non_empty-law as oid_non_empty};
 ghost use Rattle.yasna_notation.specs.contracts.canonical.ObjectIdentifierCanonicalNotation.TheImpl.Laws.{written-law as oid_written};
+ghost use Rattle.std.specs.Prelude.{[]};
 ghost use Rattle.ec_keys.specs.declared.ec_parameters.EcParameters.TheVariants.{NamedCurve};
 
 use yasna::models::ObjectIdentifier;
@@ -86,7 +87,9 @@ impl Notation for EcParameters {
     ghost lawful = { λ _. represented_lawful ⟦<EcParameters as Represents<Sides>>⟧.value_of (in_choice ⟦<Notated as Notation>⟧.means.encoding_under
         (oid_law refl).own) };
 
-    ghost non_empty = { λ u m v. (oid_non_empty u) m (⟦<EcParameters as Represents<Sides>>⟧.value_of v) };
+    ghost non_empty = { λ u m v. elim v as (λ k. ⟦<Notated as Notation>⟧.means.encoding_under u m (⟦<EcParameters as Represents<Sides>>⟧.value_of k) ≡ [] → ⊥) [
+      | NamedCurve x ↦ (oid_non_empty u) m x
+    ] };
 }
 
 impl Message for EcParameters {

@@ -1,9 +1,11 @@
--- The numbers of ``.
+-- The numbers of `CRLReason`.
 use Rattle.std.proofs.Common.{◌≡◌, ◌∷◌, [], ℤ, List, Bool, true, pos, negsuc, refl, FitsSigned, arith}
 use Rattle.std.specs.Prelude.{◌↔◌}
 use Rattle.std.specs.Int.{w64}
 use Rattle.std.specs.List.{list_any}
 use Rattle.std.specs.Ordering.{int_eq}
+use Rattle.std.proofs.lemmas.Bool.Decides.{Decides-int_eq}
+use Rattle.yasna_base.specs.Default.{DetectsDefault}
 use Rattle.ocsp.specs.declared.crl_reason.CrlReason.{CrlReason}
 use Rattle.ocsp.specs.declared.crl_reason.CrlReason.TheVariants.{Unspecified, KeyCompromise, CaCompromise, AffiliationChanged, Superseded, CessationOfOperation, CertificateHold, RemoveFromCrl, PrivilegeWithdrawn, AaCompromise}
 
@@ -39,3 +41,7 @@ crl_reason_writable CertificateHold = (λ u. (omega arith, refl), λ x. tt)
 crl_reason_writable RemoveFromCrl = (λ u. (omega arith, refl), λ x. tt)
 crl_reason_writable PrivilegeWithdrawn = (λ u. (omega arith, refl), λ x. tt)
 crl_reason_writable AaCompromise = (λ u. (omega arith, refl), λ x. tt)
+
+-- values with the number of a value are equal to it
+pub crl_reason_detects : (d : CrlReason) → DetectsDefault (λ v w. crl_reason_number v ≡ crl_reason_number w) (λ v. int_eq (crl_reason_number v) (crl_reason_number d)) d
+crl_reason_detects d v = Decides-int_eq (crl_reason_number v) (crl_reason_number d)

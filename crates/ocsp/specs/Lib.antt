@@ -1,2 +1,2 @@
-pub mod CrlReason
 pub mod OcspResponseStatus
+pub mod CrlReason

@@ -1,9 +1,11 @@
--- The numbers of ``.
+-- The numbers of `OCSPResponseStatus`.
 use Rattle.std.proofs.Common.{◌≡◌, ◌∷◌, [], ℤ, List, Bool, true, pos, negsuc, refl, FitsSigned, arith}
 use Rattle.std.specs.Prelude.{◌↔◌}
 use Rattle.std.specs.Int.{w64}
 use Rattle.std.specs.List.{list_any}
 use Rattle.std.specs.Ordering.{int_eq}
+use Rattle.std.proofs.lemmas.Bool.Decides.{Decides-int_eq}
+use Rattle.yasna_base.specs.Default.{DetectsDefault}
 use Rattle.ocsp.specs.declared.ocsp_response_status.OcspResponseStatus.{OcspResponseStatus}
 use Rattle.ocsp.specs.declared.ocsp_response_status.OcspResponseStatus.TheVariants.{Successful, MalformedRequest, InternalError, TryLater, SigRequired, Unauthorized}
 
@@ -31,3 +33,7 @@ ocsp_response_status_writable InternalError = (λ u. (omega arith, refl), λ x. 
 ocsp_response_status_writable TryLater = (λ u. (omega arith, refl), λ x. tt)
 ocsp_response_status_writable SigRequired = (λ u. (omega arith, refl), λ x. tt)
 ocsp_response_status_writable Unauthorized = (λ u. (omega arith, refl), λ x. tt)
+
+-- values with the number of a value are equal to it
+pub ocsp_response_status_detects : (d : OcspResponseStatus) → DetectsDefault (λ v w. ocsp_response_status_number v ≡ ocsp_response_status_number w) (λ v. int_eq (ocsp_response_status_number v) (ocsp_response_status_number d)) d
+ocsp_response_status_detects d v = Decides-int_eq (ocsp_response_status_number v) (ocsp_response_status_number d)

@@ -13,11 +13,14 @@
 //!     privilegeWithdrawn    (9),
 //!     aACompromise          (10) }
 //! ```
+ghost use Rattle.std.specs.Ordering.{on, int_eq};
+ghost use Rattle.std.specs.Cmp.{partial_equiv_from_equiv};
+ghost use Rattle.std.proofs.lemmas.Cmp.{on_equiv, int_eq_equiv};
 ghost use Rattle.ocsp.specs.CrlReason.{crl_reason_number, crl_reason_named, crl_reason_allowed, crl_reason_writable};
 
 use yasna_notation_types::Numbered;
 
-/// ``.
+/// `CRLReason`.
 #[derive(Clone, Copy)]
 pub enum CrlReason {
     Unspecified,
@@ -71,4 +74,18 @@ impl Numbered for CrlReason {
     }
 
     ghost writable = { crl_reason_writable };
+}
+
+impl PartialEq for CrlReason {
+    ghost eq = { on crl_reason_number int_eq };
+
+    ghost laws = { partial_equiv_from_equiv (on_equiv crl_reason_number int_eq_equiv) };
+
+    fn eq(&self, other: &CrlReason) -> bool {
+        self.number() == other.number()
+    }
+}
+
+impl Eq for CrlReason {
+    ghost laws = { on_equiv crl_reason_number int_eq_equiv };
 }

@@ -1,4 +1,4 @@
-//! Types of the modules PKIX1Implicit88, OCSP.
+//! Types of the modules OCSP, PKIX1Implicit88.
 //!
 //! Each type is a notation itself. `yasna_notation::Encoded` of it has the traits, so `decode_der` reads an `Encoded` of it.
 //! `is_valid` of `yasna_notation_validity` tests whether a value that was filled from input can be written.

@@ -9,11 +9,14 @@
 //!     sigRequired       (5),
 //!     unauthorized      (6) }
 //! ```
+ghost use Rattle.std.specs.Ordering.{on, int_eq};
+ghost use Rattle.std.specs.Cmp.{partial_equiv_from_equiv};
+ghost use Rattle.std.proofs.lemmas.Cmp.{on_equiv, int_eq_equiv};
 ghost use Rattle.ocsp.specs.OcspResponseStatus.{ocsp_response_status_number, ocsp_response_status_named, ocsp_response_status_allowed, ocsp_response_status_writable};
 
 use yasna_notation_types::Numbered;
 
-/// ``.
+/// `OCSPResponseStatus`.
 #[derive(Clone, Copy)]
 pub enum OcspResponseStatus {
     Successful,
@@ -55,4 +58,18 @@ impl Numbered for OcspResponseStatus {
     }
 
     ghost writable = { ocsp_response_status_writable };
+}
+
+impl PartialEq for OcspResponseStatus {
+    ghost eq = { on ocsp_response_status_number int_eq };
+
+    ghost laws = { partial_equiv_from_equiv (on_equiv ocsp_response_status_number int_eq_equiv) };
+
+    fn eq(&self, other: &OcspResponseStatus) -> bool {
+        self.number() == other.number()
+    }
+}
+
+impl Eq for OcspResponseStatus {
+    ghost laws = { on_equiv ocsp_response_status_number int_eq_equiv };
 }

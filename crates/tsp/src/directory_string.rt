@@ -15,6 +15,7 @@
 //! - a constraint isn't tested.
 //! - the characters of a string aren't read.
 //! - a constraint isn't tested.
+//! - a constraint isn't tested.
 ghost use Rattle.std.specs.Prelude.{◌≡◌, ◌↔◌, IsTrue, Some, length, refl};
 ghost use Rattle.std.proofs.Common.{ap, arith};
 ghost use Rattle.yasna_base.specs.Text.{characters};
