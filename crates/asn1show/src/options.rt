@@ -146,6 +146,14 @@ fn decimal_arg<'a>(alloc: Global) -> Arg<'a> {
         .help("Show integers of more than 8 octets in decimal")
 }
 
+fn dump_arg<'a>(alloc: Global, others: &'static [&'static str]) -> Result<Arg<'a>, AllocError> {
+    Arg::new(alloc, "dump")
+        .long("dump")
+        .action(ArgAction::SetTrue)
+        .help("Show the first octets of an element beside its line")
+        .conflicts_with_all(others)
+}
+
 fn check_arg<'a>(alloc: Global) -> Arg<'a> {
     value_arg(
         alloc,
@@ -196,6 +204,7 @@ fn push_values(alloc: Global, args: &mut Vec<Arg<'_>>) -> Result<(), AllocError>
     args.push(number_arg(alloc, "extract", &["check"], EXTRACT_HELP)?)?;
     args.push(contents_arg(alloc)?)?;
     args.push(json_arg(alloc, &["check", "extract"])?)?;
+    args.push(dump_arg(alloc, &["extract", "json"])?)?;
     args.push(decimal_arg(alloc))?;
     args.push(width_arg(alloc))?;
     args.push(module_arg(alloc)?)?;
@@ -310,6 +319,7 @@ fn view_of<'a>(matches: &ArgMatches<'a>) -> View<'a> {
         layout,
         numbers: numbers_of(matches),
         width: number_of(matches, "width").unwrap_or(default_width(layout)),
+        has_dump: matches.get_flag("dump"),
         schema: None,
     }
 }

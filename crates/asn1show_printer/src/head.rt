@@ -40,8 +40,8 @@ fn write_size(line: &mut LineBuffer, size: Option<usize>) {
     }
 }
 
-// Writes an element's place and lengths.
-fn write_place(line: &mut LineBuffer, item: &Item<'_>) {
+/// Writes an element's place and lengths.
+pub fn write_place(line: &mut LineBuffer, item: &Item<'_>) {
     let (offset, header) = (item.offset, item.header);
     write!(line, "{offset:>7} {header:>2}+");
     write_size(line, item.size)
@@ -65,9 +65,8 @@ fn write_label(line: &mut LineBuffer, label: Label<'_>) {
     line.write_str(" ")
 }
 
-/// Writes an element's place, lengths, names and type, up to its value.
-pub fn write_head(line: &mut LineBuffer, item: &Item<'_>, label: Label<'_>) {
-    write_place(line, item);
+/// Writes an element's names and type by its depth, up to its value.
+pub fn write_type(line: &mut LineBuffer, item: &Item<'_>, label: Label<'_>) {
     line.write_str(if item.in_string { ">" } else { " " });
     let indent = 1 + 2 * usize::from(item.depth);
     write!(line, "{:indent$}", "");

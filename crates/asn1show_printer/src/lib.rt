@@ -15,6 +15,7 @@
 //! | `type_names` | names of types |
 //! | `report` | what is written of an element |
 //! | `head` | the beginning of a line |
+//! | `dump` | the octets of an element beside its line |
 //! | `printer` | the lines |
 //!
 //! What `asn1show_lines` calls are items of the crate: `asn1show_printer::Printer`.
@@ -22,6 +23,7 @@
 
 mod asn_type;
 mod diagnostic;
+mod dump;
 mod extraction;
 mod head;
 mod line;
@@ -36,6 +38,7 @@ mod value;
 pub use asn1show_names::Names;
 pub use asn1show_schema::{Label, Schema};
 pub use diagnostic::{Conformance, Diagnostic};
+pub use dump::{octets_of, own_len};
 pub use line::LineBuffer;
 pub use output::Output;
 pub use printer::{Printer, Source};

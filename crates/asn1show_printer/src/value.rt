@@ -20,6 +20,7 @@ use asn1show_names::Names;
 use asn1show_schema::Schema;
 use asn1show_walk::Item;
 use number::write_integer;
+pub use octets::write_digits;
 use octets::{are_bits, is_padding_clear, write_bits, write_octets};
 use std::alloc::Global;
 use std::str;
@@ -70,6 +71,8 @@ pub struct View<'n> {
     pub numbers: Numbers,
     /// The most hexadecimal digits that are written of a value.
     pub width: usize,
+    /// Whether the octets of an element are beside its line.
+    pub has_dump: bool,
     /// The types of modules that name the elements, if these are given.
     pub schema: Option<&'n Schema>,
 }

@@ -63,6 +63,7 @@ pub(crate) const ALL: View<'static> = View {
     layout: Layout::Lines,
     numbers: Numbers::Hexadecimal,
     width: 16,
+    has_dump: false,
     schema: None,
 };
 
