@@ -274,12 +274,12 @@ const VARIANT_CLAUSES: &str =
     "ghost use Rattle.std.specs.Prelude.{[]};\nghost use Rattle.@K.specs.declared.@F.@N.TheVariants.{@G};\n";
 
 // Adds the files of a CHOICE.
-fn add_choice(
+fn add_choice<'x>(
     alloc: Global,
     source: &CrateSource<'_, '_>,
     definition: &Definition<'_>,
-    name: &TypeName,
-    choice: &Alternatives<'_>,
+    name: &'x TypeName,
+    choice: &'x Alternatives<'_>,
     files: &mut Files,
 ) -> Result<(), AllocError> {
     let alternatives = choice.alternatives.as_slice();
