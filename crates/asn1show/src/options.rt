@@ -126,11 +126,27 @@ fn json_arg<'a>(alloc: Global, others: &'static [&'static str]) -> Result<Arg<'a
         .conflicts_with_all(others)
 }
 
+fn html_arg<'a>(alloc: Global, others: &'static [&'static str]) -> Result<Arg<'a>, AllocError> {
+    Arg::new(alloc, "html")
+        .long("html")
+        .action(ArgAction::SetTrue)
+        .help("Write the elements as a page of HTML")
+        .conflicts_with_all(others)
+}
+
 fn decimal_arg<'a>(alloc: Global) -> Arg<'a> {
     Arg::new(alloc, "decimal")
         .long("decimal")
         .action(ArgAction::SetTrue)
         .help("Show integers of more than 8 octets in decimal")
+}
+
+fn dump_arg<'a>(alloc: Global, others: &'static [&'static str]) -> Result<Arg<'a>, AllocError> {
+    Arg::new(alloc, "dump")
+        .long("dump")
+        .action(ArgAction::SetTrue)
+        .help("Show the first octets of an element beside its line")
+        .conflicts_with_all(others)
 }
 
 fn check_arg<'a>(alloc: Global) -> Arg<'a> {
@@ -165,7 +181,9 @@ fn push_values(alloc: Global, args: &mut Vec<Arg<'_>>) -> Result<(), AllocError>
     args.push(number_arg(alloc, "at", &["check", "extract"], AT_HELP)?)?;
     args.push(number_arg(alloc, "extract", &["check"], EXTRACT_HELP)?)?;
     args.push(contents_arg(alloc)?)?;
-    args.push(json_arg(alloc, &["check", "extract"])?)?;
+    args.push(json_arg(alloc, &["check", "extract", "html"])?)?;
+    args.push(html_arg(alloc, &["check", "extract"])?)?;
+    args.push(dump_arg(alloc, &["extract", "json", "html"])?)?;
     args.push(decimal_arg(alloc))?;
     args.push(width_arg(alloc))?;
     Ok(args.push(file_arg(alloc))?)
@@ -258,6 +276,8 @@ fn numbers_of(matches: &ArgMatches<'_>) -> Numbers {
 fn layout_of(matches: &ArgMatches<'_>) -> Layout {
     if matches.get_flag("json") {
         Layout::Json
+    } else if matches.get_flag("html") {
+        Layout::Html
     } else {
         Layout::Lines
     }
@@ -266,7 +286,7 @@ fn layout_of(matches: &ArgMatches<'_>) -> Layout {
 // The most hexadecimal digits of a value, if no option says it. In JSON values are whole.
 fn default_width(layout: Layout) -> usize {
     match layout {
-        Layout::Lines => WIDTH,
+        Layout::Lines | Layout::Html => WIDTH,
         Layout::Json => usize::MAX,
     }
 }
@@ -278,6 +298,7 @@ fn view_of(matches: &ArgMatches<'_>) -> View {
         layout,
         numbers: numbers_of(matches),
         width: number_of(matches, "width").unwrap_or(default_width(layout)),
+        has_dump: matches.get_flag("dump"),
     }
 }
 

@@ -7,3 +7,4 @@ pub mod Malformed
 pub mod Body
 pub mod Opening
 pub mod FirstError
+mod Pieces

@@ -1,4 +1,5 @@
 pub mod Text
 pub mod Blocks
+pub mod Hex
 pub mod Input
 pub mod Reader

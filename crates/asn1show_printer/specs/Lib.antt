@@ -3,3 +3,4 @@ pub mod Contents
 pub mod Conformance
 pub mod Shown
 pub mod Selection
+pub mod Dump

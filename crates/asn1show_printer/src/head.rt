@@ -24,7 +24,8 @@ fn name_of(tag: Tag) -> Option<&'static str> {
     }
 }
 
-fn write_tag(line: &mut LineBuffer, tag: Tag) {
+/// Writes the name of the type with a tag, or the tag in brackets.
+pub fn write_tag(line: &mut LineBuffer, tag: Tag) {
     if let Some(name) = name_of(tag) {
         return line.write_str(name);
     }
@@ -39,8 +40,8 @@ fn write_size(line: &mut LineBuffer, size: Option<usize>) {
     }
 }
 
-// Writes an element's place and lengths.
-fn write_place(line: &mut LineBuffer, item: &Item<'_>) {
+/// Writes an element's place and lengths.
+pub fn write_place(line: &mut LineBuffer, item: &Item<'_>) {
     let (offset, header) = (item.offset, item.header);
     write!(line, "{offset:>7} {header:>2}+");
     write_size(line, item.size)
@@ -51,9 +52,8 @@ fn has_value(item: &Item<'_>) -> bool {
     item.bit == PCBit::Primitive && item.tag != TAG_NULL
 }
 
-/// Writes an element's place, lengths and type, up to its value.
-pub fn write_head(line: &mut LineBuffer, item: &Item<'_>) {
-    write_place(line, item);
+/// Writes an element's type by its depth, up to its value.
+pub fn write_type(line: &mut LineBuffer, item: &Item<'_>) {
     line.write_str(if item.in_string { ">" } else { " " });
     let indent = 1 + 2 * usize::from(item.depth);
     write!(line, "{:indent$}", "");

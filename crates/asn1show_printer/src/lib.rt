@@ -15,6 +15,7 @@
 //! | `type_names` | names of types |
 //! | `report` | what is written of an element |
 //! | `head` | the beginning of a line |
+//! | `dump` | the octets of an element beside its line |
 //! | `printer` | the lines |
 //!
 //! What `asn1show_lines` calls are items of the crate: `asn1show_printer::Printer`.
@@ -22,6 +23,7 @@
 
 mod asn_type;
 mod diagnostic;
+mod dump;
 mod extraction;
 mod head;
 mod line;
@@ -35,9 +37,11 @@ mod value;
 
 pub use asn1show_names::Names;
 pub use diagnostic::{Conformance, Diagnostic};
+pub use dump::{octets_of, own_len};
+pub use head::write_tag;
 pub use line::LineBuffer;
 pub use output::Output;
 pub use printer::{Printer, Source};
 pub use report::Report;
 pub use selection::{Extent, Part, Selection};
-pub use value::{Layout, Numbers, Style, View, characters_of, write_quoted};
+pub use value::{Layout, Numbers, Style, View, characters_of, write_digits, write_quoted};

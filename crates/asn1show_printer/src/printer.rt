@@ -2,8 +2,9 @@
 ghost use Rattle.std.specs.Prelude.{IfErr};
 ghost use Rattle.asn1show_walk.specs.Errors.{IsExternal};
 
+use crate::dump::write_dump;
 use crate::extraction::part_of;
-use crate::head::write_head;
+use crate::head::{write_place, write_type};
 use crate::line::LineBuffer;
 use crate::output::Output;
 use crate::report::Report;
@@ -28,8 +29,8 @@ pub struct Printer<'w, 'n, W: Write + Drop> {
     output: &'w mut Output<W>,
     report: Report<'n>,
     source: Source<'n>,
-    // What is shown.
-    selection: Selection,
+    // What is shown, and how.
+    style: Style<'n>,
     // The bytes that are extracted.
     extracted: LineBuffer,
 }
@@ -45,22 +46,31 @@ impl<'w, 'n, W: Write + Drop> Printer<'w, 'n, W> {
     ) -> Result<Printer<'w, 'n, W>, WalkError>
         ensures { IfErr result IsExternal }
     {
-        let selection = style.view.selection;
-        if matches!(selection, Selection::Elements(_)) {
+        if matches!(style.view.selection, Selection::Elements(_)) {
             output.write_heading()?;
         }
         Ok(Printer {
             output,
             report: Report::new(style),
             source,
-            selection,
+            style,
             extracted: LineBuffer::new(style.alloc),
         })
     }
 
+    // Writes the beginning of an element's line, up to its value.
+    fn write_head(&mut self, item: &Item<'_>) {
+        let line = &mut self.report.line;
+        write_place(line, item);
+        if self.style.view.has_dump {
+            write_dump(line, self.style.alloc, self.source.bytes, item);
+        }
+        write_type(line, item)
+    }
+
     // Takes a part of an element, if it is the one that is asked for.
     fn extract(&mut self, item: &Item<'_>) {
-        let Selection::Bytes(at, part) = self.selection else {
+        let Selection::Bytes(at, part) = self.style.view.selection else {
             return;
         };
         if item.offset != at {
@@ -80,12 +90,12 @@ impl<'w, 'n, W: Write + Drop> Printer<'w, 'n, W> {
         let Printer {
             output,
             mut report,
-            selection,
+            style,
             extracted,
             ..
         } = self;
         report.finish(output);
-        match selection {
+        match style.view.selection {
             Selection::Elements(_) => {
                 report.print_conformance();
                 output.write(&mut report.line)
@@ -105,7 +115,7 @@ impl<'w, 'n, W: Write + Drop> Visitor for Printer<'w, 'n, W> {
     ghost rejects = { λ _. IsExternal };
 
     fn visit(&mut self, item: &Item<'_>) -> Result<(), WalkError> {
-        write_head(&mut self.report.line, item);
+        self.write_head(item);
         self.report.describe(item);
         self.report.print_diagnostics();
         self.extract(item);

@@ -19,6 +19,7 @@ use arcs::{are_components, components_diagnostic, write_oid, write_relative};
 use asn1show_names::Names;
 use asn1show_walk::Item;
 use number::write_integer;
+pub use octets::write_digits;
 use octets::{are_bits, is_padding_clear, write_bits, write_octets};
 use std::alloc::Global;
 use std::str;
@@ -56,6 +57,8 @@ pub enum Layout {
     Lines,
     /// An array of JSON (RFC 8259).
     Json,
+    /// A page of HTML.
+    Html,
 }
 
 /// What is shown of elements, and how.
@@ -69,10 +72,12 @@ pub struct View {
     pub numbers: Numbers,
     /// The most hexadecimal digits that are written of a value.
     pub width: usize,
+    /// Whether the octets of an element are beside its line.
+    pub has_dump: bool,
 }
 
 impl View {
-    /// Whether lines are written, and not only bytes or JSON.
+    /// Whether lines are written, and not only bytes, JSON or HTML.
     pub fn has_lines(self) -> bool {
         matches!(self.layout, Layout::Lines) && self.selection.has_lines()
     }

@@ -14,6 +14,7 @@
 //! | `examples` | none: it holds the pieces of code of README.md and docs/GUIDE.md |
 //! | `exact` | types that keep an element of any type as it came |
 //! | `guide` | these pieces, each once on bytes |
+//! | `hex_layouts` | hexadecimal digits as numbers of C and in dumps |
 //! | `known` | calls whose closures are known |
 //! | `lines` | the lines of the elements of any input |
 //! | `located` | where a parse failed |
@@ -22,6 +23,7 @@
 //! | `pieces` | none: it holds how rows of bytes are read and written again |
 //! | `records`, `scrypt`, `third_party` | types of one's own |
 //! | `shown` | the lines of malformed and unusual elements |
+//! | `shown_html` | the HTML of elements |
 //! | `shown_json` | the JSON of elements |
 //! | `times` | both times |
 //! | `tree` | a type that refers to itself, and elements at 101 levels |
@@ -49,6 +51,8 @@ mod examples;
 #[cfg(test)]
 mod guide;
 #[cfg(test)]
+mod hex_layouts;
+#[cfg(test)]
 mod known;
 #[cfg(test)]
 mod lines;
@@ -68,6 +72,8 @@ mod records;
 mod scrypt;
 #[cfg(test)]
 mod shown;
+#[cfg(test)]
+mod shown_html;
 #[cfg(test)]
 mod shown_json;
 #[cfg(test)]

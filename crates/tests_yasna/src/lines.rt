@@ -63,6 +63,7 @@ pub(crate) const ALL: View = View {
     layout: Layout::Lines,
     numbers: Numbers::Hexadecimal,
     width: 16,
+    has_dump: false,
 };
 
 // Whether this was written with this outcome.

@@ -1,6 +1,6 @@
 //! The lines of elements that are malformed or unusual, and of blocks of PEM.
 
-use crate::checks::finds_none;
+use crate::checks::{finds_none, holds};
 use crate::lines::Expectation::{Constructed, Line, Listed, Malformed};
 use crate::lines::{ALL, Expectation, NESTED, Row, first_other, is_viewed, is_written};
 use asn1show_lines::InputFormat::Hex;
@@ -541,6 +541,33 @@ fn first_other_in_decimal(alloc: Global) -> Option<&'static str> {
 #[test]
 fn long_numbers_are_in_decimal_if_asked_for(rt: HostRuntime) {
     finds_none(&rt, first_other_in_decimal(rt.alloc()));
+}
+
+// A constructed element, and primitive ones whose octets are shown whole and in part.
+const DUMPED: &str = "input: hexadecimal, 19 bytes
+      0  2+17     3011                  SEQUENCE
+      2  2+1      0201 05                 INTEGER 5
+      5  2+12     0C0C 48656C6C6F2C..     UTF8String \"Hello, world\"
+rules: BER, DER
+";
+
+#[test]
+fn octets_are_beside_lines_if_asked_for(rt: HostRuntime) {
+    let view = View {
+        has_dump: true,
+        ..ALL
+    };
+    let row = (
+        "3011 020105 0C0C 48656C6C6F2C20776F726C64",
+        None,
+        Ber,
+        Listed(DUMPED, ""),
+    );
+    holds(
+        &rt,
+        "octets beside lines",
+        is_viewed(rt.alloc(), &row, view, true),
+    );
 }
 
 // The elements of `NESTED` that are listed, what is printed of them, and whether the one that is asked for was found.

@@ -9,7 +9,8 @@ use std::alloc::Global;
 // So many octets are turned into text at once.
 const PIECE: usize = 64;
 
-fn write_digits(line: &mut LineBuffer, alloc: Global, piece: &[u8]) {
+/// Writes octets in hexadecimal digits.
+pub fn write_digits(line: &mut LineBuffer, alloc: Global, piece: &[u8]) {
     match hex::encode_upper(alloc, piece) {
         Ok(digits) => line.write_str(&digits),
         Err(_) => line.fail_out_of_memory(),

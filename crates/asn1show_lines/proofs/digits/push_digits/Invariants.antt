@@ -1,5 +1,5 @@
 use Rattle.std.proofs.Common.{◌≡◌, ◌++◌, drop}
-use Rattle.asn1show_lines.specs.Text.{digits_of}
+use Rattle.asn1show_lines.specs.Hex.{digits_of}
 use Rattle.asn1show_lines.proofs.digits.push_digits.Given as goal
 
 -- what is taken, and the digits that are left, are all

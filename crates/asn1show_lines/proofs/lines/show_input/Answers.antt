@@ -5,7 +5,7 @@ use Rattle.asn1show_lines.specs.Text.{text_of}
 use Rattle.asn1show_lines.specs.declared.input_format.InputFormat.TheVariants.{Bytes}
 use Rattle.asn1show_lines.proofs.Detected.{detected_once}
 use Rattle.asn1show_lines.proofs.Taking.{on_ok_both}
-use Rattle.asn1show_lines.proofs.lines.show.Goals as goal
+use Rattle.asn1show_lines.proofs.lines.show_input.Goals as goal
 
 pub returns-clause-raw : goal.returns-clause-raw
 returns-clause-raw g c =
