@@ -1,2 +1,12 @@
 pub mod Tags
+pub mod Trees
+pub mod Names
+pub mod Bounds
+pub mod Leaves
+pub mod Tagged
+pub mod Layers
+pub mod Numbers
 pub mod Presence
+pub mod Parts
+pub mod Types
+pub mod Components

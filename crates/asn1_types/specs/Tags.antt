@@ -1,8 +1,15 @@
 -- The tags of types (X.680, 24.7 to 24.9, 28.2 to 28.5, and 30).
-use Rattle.std.specs.Prelude.{◌≡◌, ◌⊎◌, ◌+◌, ℕ, Bool, true, false, List, IsTrue, Option, Some, None, All, count_by, not}
+use Rattle.std.specs.Prelude.{◌≡◌, ◌⊎◌, ◌↔◌, ◌+◌, ℕ, Bool, true, false, List, IsTrue, Option, Some, None, All, count_by, not, codes, slice_get, if◌then◌else◌}
+use Rattle.std.specs.Str.{bytes_eq}
 use Rattle.asn1_types.specs.declared.model.TagMode.{TagMode}
 use Rattle.asn1_types.specs.declared.model.TagMode.TheVariants as modes
+use Rattle.asn1_types.specs.declared.model.TagClass.{TagClass}
+use Rattle.asn1_types.specs.declared.model.TagClass.TheVariants as classes
+use Rattle.asn1_types.specs.declared.model.TagLayer.{TagLayer}
+use Rattle.asn1_syntax.specs.declared.token.Token.{Token}
+use Rattle.asn1_syntax.specs.declared.tree.Module.{Module}
 use Rattle.asn1_syntax.specs.declared.tree.TagDefault.{TagDefault}
+use Rattle.asn1_syntax.specs.declared.tree.TagNotation.{TagNotation}
 use Rattle.asn1_syntax.specs.declared.tree.TagDefault.TheVariants as defaults
 
 -- 30.6 b: the TagDefault of the module is EXPLICIT TAGS or empty
@@ -24,3 +31,33 @@ IsTaggedAutomatically environment has_tag = (environment ≡ defaults.Automatic)
 abbrev pub automatic_number : List Bool → List Bool → Bool → ℕ
 automatic_number before all true = count_by not all + count_by (λ b. b) before
 automatic_number before all false = count_by not before
+
+-- 8.1 and 30.2: the class of a tag, by the word before its number. No word is of the class context-specific
+abbrev pub class_named : Token → TagClass
+class_named word = if bytes_eq word.text.now (codes "APPLICATION") then classes.Application
+    else (if bytes_eq word.text.now (codes "PRIVATE") then classes.Private else classes.Universal)
+
+abbrev pub class_written : Option Token → TagClass
+class_written None = classes.ContextSpecific
+class_written (Some word) = class_named word
+
+-- the word after a tag. A word that is not IMPLICIT is EXPLICIT
+abbrev pub mode_named : Token → TagMode
+mode_named word = if bytes_eq word.text.now (codes "IMPLICIT") then modes.Implicit else modes.Explicit
+
+abbrev pub mode_written : Option Token → Option TagMode
+mode_written None = None
+mode_written (Some word) = Some (mode_named word)
+
+-- the TagDefault of the module at an index
+abbrev pub tags_of_module : Option Module → TagDefault
+tags_of_module None = defaults.Omitted
+tags_of_module (Some m) = m.tags
+
+abbrev pub environment_of : List Module → ℕ → TagDefault
+environment_of modules index = tags_of_module (slice_get modules index)
+
+-- 30.2 and 30.6: what a tag is, of the TagDefault, and whether the type under it is an untagged CHOICE or open type
+pub record IsTagOf (environment : TagDefault) (tag : TagNotation) (is_untagged : Bool) (layer : TagLayer) : Type 0 where
+  pub class : layer.class ≡ class_written tag.class
+  pub mode : (layer.mode ≡ modes.Explicit) ↔ SpecifiesExplicit environment (mode_written tag.mode) is_untagged

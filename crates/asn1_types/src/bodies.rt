@@ -1,16 +1,21 @@
 //! The tags, the parts and the bodies of SEQUENCEs, SETs and CHOICEs.
-ghost use Rattle.std.specs.Prelude.{IfOk};
+ghost use Rattle.std.specs.Prelude.{◌≡◌, IfOk, map, take};
+ghost use Rattle.std.specs.List.{enumerate_from};
+ghost use Rattle.asn1_types.specs.Layers.{AreLayers};
+ghost use Rattle.asn1_types.specs.Parts.{IsFinished};
 ghost use Rattle.asn1_types.specs.Presence.{KeepsPresence};
+ghost use Rattle.asn1_types.specs.Tags.{automatic_number, environment_of};
+ghost use Rattle.asn1_types.specs.Numbers.{AreNumbered, has_own_tag, is_added, number_if, numbered_at};
 
 use crate::components::{WrittenPart, WrittenParts};
 use crate::constraints::loosening_of;
-use crate::cores::{TypeAt, unconstrained};
+use crate::cores::{TypeAt, is_tagged};
 use crate::defaults::default_value;
 use crate::model::{
     Alternative, Alternatives, Body, Components, Loosening, Notation, Part, Place, Presence,
     TagLayer,
 };
-use crate::plain::{at, automatically_tagged, first_place, layer};
+use crate::plain::{Typed, at, automatically_tagged, first_place, layer};
 use crate::problem::{Problem, ProblemKind, Stop, problem_of_two};
 use crate::resolver::{Resolver, environment, note};
 use crate::tags::{automatic_number, is_tagged_automatically};
@@ -18,24 +23,22 @@ use crate::tags_of_types::{Distinction, check_tags};
 use crate::tokens::is;
 use asn1_syntax::Token;
 use asn1_syntax::tree::{Presence as WrittenPresence, TypeNotation};
-
-// Whether a type is written with a tag.
-fn is_tagged<'a>(notation: &'a TypeNotation<'a>) -> bool {
-    matches!(unconstrained(notation), TypeNotation::Tagged(_, _))
-}
+use std::alloc::{AllocError, Global};
 
 /// The layers of the tags before a type, outermost first.
 pub fn layers<'a>(
     r: &Resolver<'a>,
     at: TypeAt<'a>,
     is_choice: bool,
-) -> Result<Vec<TagLayer>, Stop> {
+) -> Result<Vec<TagLayer>, Stop>
+    ensures { IfOk result (λ layers. AreLayers (environment_of r.now.scope.modules.now at.entry.module) is_choice at.entry.notation.now layers.items) }
+{
     let mut layers = Vec::new(r.alloc);
     let mut rest = at.notation;
     loop {
         rest = match rest {
             TypeNotation::Tagged(tag, inner) => {
-                let is_untagged = is_choice && !is_tagged(&**inner);
+                let is_untagged = is_choice && !is_tagged(inner);
                 let next = layer(r, at.module, tag, is_untagged)?;
                 layers.push(next)?;
                 &**inner
@@ -47,7 +50,9 @@ pub fn layers<'a>(
 }
 
 /// Records the constraints of a SEQUENCE, a SET, a CHOICE or an ENUMERATED.
-pub fn note_constraints<'a>(r: &mut Resolver<'a>, at: TypeAt<'a>) -> Result<(), Stop> {
+pub fn note_constraints<'a>(r: &mut Resolver<'a>, at: TypeAt<'a>) -> Result<(), Stop>
+    ensures { r.new.scope ≡ r.old.scope }
+{
     let mut rest = at.notation;
     loop {
         rest = match rest {
@@ -79,55 +84,103 @@ fn is_extensible(r: &Resolver<'_>, module: usize) -> bool {
     }
 }
 
-// Whether a type is written with a tag.
-fn has_tag(part: &WrittenPart<'_>) -> bool {
-    part.is_own && matches!(unconstrained(part.notation), TypeNotation::Tagged(_, _))
+// Whether a part is written with a tag in these braces.
+fn has_tag(part: &WrittenPart<'_>) -> bool
+    ensures { result ≡ has_own_tag part.now }
+{
+    part.is_own && is_tagged(part.notation)
 }
 
 // For each part, whether it is written with a tag in these braces.
-fn tagged_parts(r: &Resolver<'_>, parts: &[WrittenPart<'_>]) -> Result<Vec<bool>, Stop> {
-    let mut flags = Vec::new(r.alloc);
-    for part in parts {
-        flags.push(has_tag(part))?;
-    }
-    Ok(flags)
+fn tagged_parts(r: &Resolver<'_>, parts: &[WrittenPart<'_>]) -> Result<Vec<bool>, AllocError>
+    ensures { IfOk result (λ flags. flags.items ≡ map has_own_tag parts.now) }
+{
+    parts.iter().map(has_tag).collect(r.alloc)
 }
 
 // For each part, whether it is an addition.
-fn additions(r: &Resolver<'_>, parts: &[WrittenPart<'_>]) -> Result<Vec<bool>, Stop> {
-    let mut flags = Vec::new(r.alloc);
-    for part in parts {
-        flags.push(part.is_addition)?;
-    }
-    Ok(flags)
+fn additions(r: &Resolver<'_>, parts: &[WrittenPart<'_>]) -> Result<Vec<bool>, AllocError>
+    ensures { IfOk result (λ flags. flags.items ≡ map is_added parts.now) }
+{
+    parts.iter().map(|part| part.is_addition).collect(r.alloc)
 }
 
 // The number of the automatic tag of the part at an index.
-fn number_at(additions: &[bool], index: usize, is_addition: bool) -> usize {
-    if index > additions.len() {
-        return index;
-    }
-    automatic_number(&additions[..index], additions, is_addition)
+fn number_at(additions: &[bool], index: usize, is_addition: bool) -> usize
+    ensures { result ≡ automatic_number (take index additions.now) additions.now is_addition }
+{
+    let before = &additions[..index.min(additions.len())];
+    automatic_number(before, additions, is_addition)
 }
 
-/// The numbers of the automatic tags of parts, if they are tagged automatically.
-pub fn numbers_of(
-    r: &Resolver<'_>,
+/// A part as a module writes it, and the number of its automatic tag, if it has one.
+#[derive(Clone, Copy)]
+pub struct NumberedPart<'a> {
+    /// The part.
+    pub source: WrittenPart<'a>,
+    /// The number.
+    pub number: Option<usize>,
+}
+
+/// Parts with the numbers of their automatic tags, if they are tagged automatically (X.680, 24.2 and 24.7).
+pub fn numbered_parts<'a>(
+    r: &Resolver<'a>,
     module: usize,
-    parts: &[WrittenPart<'_>],
-) -> Result<Vec<Option<usize>>, Stop> {
+    parts: &[WrittenPart<'a>],
+) -> Result<Vec<NumberedPart<'a>>, Stop>
+    ensures { IfOk result (λ list. AreNumbered (environment_of r.now.scope.modules.now «module») parts.now list.items) }
+{
     let tagged = tagged_parts(r, parts)?;
     let is_addition = additions(r, parts)?;
     let is_automatic = is_tagged_automatically(environment(r, module), tagged.as_slice());
-    let mut numbers = Vec::new(r.alloc);
-    for (index, part) in parts.iter().enumerate() {
-        numbers.push(if is_automatic {
-            Some(number_at(is_addition.as_slice(), index, part.is_addition))
-        } else {
-            None
-        })?;
+    let numbered = with_numbers(r.alloc, parts, is_addition.as_slice(), is_automatic)?;
+    Ok(numbered)
+}
+
+// The number of the automatic tag of the part at an index, if parts are tagged automatically.
+fn number_if(
+    is_automatic: bool,
+    additions: &[bool],
+    index: usize,
+    is_addition: bool,
+) -> Option<usize>
+    ensures { result ≡ number_if is_automatic (automatic_number (take index additions.now) additions.now is_addition) }
+{
+    if !is_automatic {
+        return None;
     }
-    Ok(numbers)
+    Some(number_at(additions, index, is_addition))
+}
+
+// The part at an index, with the number of its automatic tag.
+fn numbered_at<'a>(
+    is_automatic: bool,
+    additions: &[bool],
+    index: usize,
+    part: &WrittenPart<'a>,
+) -> NumberedPart<'a>
+    ensures { result ≡ numbered_at is_automatic additions.now (index, part.now) }
+{
+    NumberedPart {
+        source: *part,
+        number: number_if(is_automatic, additions, index, part.is_addition),
+    }
+}
+
+// Parts with the numbers of their automatic tags, of which of them are additions, and whether they are tagged automatically.
+fn with_numbers<'a>(
+    alloc: Global,
+    parts: &[WrittenPart<'a>],
+    additions: &[bool],
+    is_automatic: bool,
+) -> Result<Vec<NumberedPart<'a>>, AllocError>
+    ensures { IfOk result (λ list. list.items ≡ map (numbered_at is_automatic additions.now) (enumerate_from 0 parts.now)) }
+{
+    parts
+        .iter()
+        .enumerate()
+        .map(|(index, part)| numbered_at(is_automatic, additions, index, part))
+        .collect(alloc)
 }
 
 // Records constraints that are not tested.
@@ -135,7 +188,9 @@ fn note_each<'a>(
     r: &mut Resolver<'a>,
     module: usize,
     constraints: &'a [Vec<Token<'a>>],
-) -> Result<(), Stop> {
+) -> Result<(), Stop>
+    ensures { r.new.scope ≡ r.old.scope }
+{
     for constraint in constraints {
         let tokens = constraint.as_slice();
         note(r, first_place(module, tokens), loosening_of(tokens))?;
@@ -150,7 +205,8 @@ fn presence_of<'a>(
     at: TypeAt<'a>,
     notation: &Notation,
 ) -> Result<Presence<'a>, Stop>
-    ensures { IfOk result (λ presence. KeepsPresence source.entry.presence.now presence) }
+    ensures scope { r.new.scope ≡ r.old.scope }
+    ensures presence { IfOk result (λ presence. KeepsPresence source.entry.presence.now presence) }
 {
     match source.presence {
         WrittenPresence::Required => Ok(Presence::Required),
@@ -169,15 +225,18 @@ fn presence_of<'a>(
 /// A part of a type that is resolved, with an automatic tag if it has a number.
 pub fn finished<'a>(
     r: &mut Resolver<'a>,
-    source: WrittenPart<'a>,
+    numbered: NumberedPart<'a>,
     written: TypeAt<'a>,
-    notation: Notation,
-    number: Option<usize>,
-) -> Result<Part<'a>, Stop> {
-    let presence = presence_of(r, source, written, &notation)?;
+    inner: Typed,
+) -> Result<Part<'a>, Stop>
+    ensures scope { r.new.scope ≡ r.old.scope }
+    ensures part { IfOk result (IsFinished numbered.entry inner) }
+{
+    let NumberedPart { source, number } = numbered;
+    let presence = presence_of(r, source, written, &inner.notation)?;
     let notation = match number {
-        Some(number) => automatically_tagged(r, number, notation)?,
-        None => notation,
+        Some(number) => automatically_tagged(r.alloc, number, inner)?,
+        None => inner.notation,
     };
     Ok(Part {
         place: at(source.module, source.name),

@@ -1,4 +1,5 @@
 //! Constraints of numbers and sizes (X.680, 49 to 51).
+ghost use Rattle.asn1_types.specs.Bounds.{DiffersInBounds};
 
 use crate::integers::{UNBOUNDED, both_bounds, both_sizes, hull, joins, size_of};
 use crate::model::{Integer, IntegerBounds, Loosening, Notation, Size};
@@ -226,36 +227,44 @@ fn constrain_numbers<'a>(
     }
 }
 
+// A size of elements with the constraint after SIZE, before OF, or whether the constraint is omitted.
+fn constrain_length<'a>(names: Names<'a>, size: &mut Size, tokens: &'a [Token<'a>]) -> bool {
+    match sizes_within(names, tokens) {
+        Some(allowed) => {
+            *size = both_sizes(*size, allowed.size);
+            !allowed.is_exact
+        }
+        None => true,
+    }
+}
+
 /// Adds the constraint after SIZE, before OF, to a list, and says whether the list accepts more.
 pub fn constrain_list<'a>(
     names: Names<'a>,
     notation: &mut Notation,
     tokens: &'a [Token<'a>],
-) -> bool {
+) -> bool
+    ensures { DiffersInBounds notation.old notation.new }
+{
     match notation {
-        Notation::SequenceOf(_, size) | Notation::SetOf(_, size) => {
-            match sizes_within(names, tokens) {
-                Some(allowed) => {
-                    *size = both_sizes(*size, allowed.size);
-                    !allowed.is_exact
-                }
-                None => true,
-            }
-        }
+        Notation::SequenceOf(_, size) => constrain_length(names, size, tokens),
+        Notation::SetOf(_, size) => constrain_length(names, size, tokens),
         _ => true,
     }
 }
 
 /// Adds a constraint to a notation, and says whether the notation accepts more.
-pub fn constrain<'a>(names: Names<'a>, notation: &mut Notation, tokens: &'a [Token<'a>]) -> bool {
+pub fn constrain<'a>(names: Names<'a>, notation: &mut Notation, tokens: &'a [Token<'a>]) -> bool
+    ensures { DiffersInBounds notation.old notation.new }
+{
     match notation {
         Notation::Integer(bounds) => constrain_numbers(names, bounds, tokens),
-        Notation::OctetString(size)
-        | Notation::BitString(size)
-        | Notation::NamedBits(size)
-        | Notation::Text(_, size)
-        | Notation::SequenceOf(_, size)
-        | Notation::SetOf(_, size) => constrain_size(names, size, tokens),
+        Notation::OctetString(size) => constrain_size(names, size, tokens),
+        Notation::BitString(size) => constrain_size(names, size, tokens),
+        Notation::NamedBits(size) => constrain_size(names, size, tokens),
+        Notation::Text(_, size) => constrain_size(names, size, tokens),
+        Notation::SequenceOf(_, size) => constrain_size(names, size, tokens),
+        Notation::SetOf(_, size) => constrain_size(names, size, tokens),
         _ => true,
     }
 }

@@ -1,4 +1,7 @@
 //! The type that a name means, through names, tags and constraints.
+ghost use Rattle.std.specs.Prelude.{◌≡◌, IfSome};
+ghost use Rattle.asn1_types.specs.Trees.{has_tag_before, is_choice, is_untagged_choice};
+ghost use Rattle.asn1_types.specs.Names.{IsAssignedAt};
 
 use crate::builtins::builtin_of;
 use crate::model::Place;
@@ -6,7 +9,7 @@ use crate::problem::{Problem, ProblemKind, problem_at};
 use crate::scope::{
     AssignmentPlace, Meaning, Scope, assignment_at, external_meaning, meaning_of, type_assigned,
 };
-use crate::tokens::is;
+use crate::tokens::{is, is_word};
 use asn1_syntax::tree::{PlainType, TypeNotation};
 use asn1_syntax::{Token, TokenKind};
 
@@ -20,6 +23,43 @@ pub struct TypeAt<'a> {
     pub module: usize,
     /// The type.
     pub notation: &'a TypeNotation<'a>,
+}
+
+/// Whether a type is written with a tag, before the constraints after it.
+#[tactic(auto, using(crate::proofs::Trees::tag_at_tagged, crate::proofs::Trees::tag_at_constrained, crate::proofs::Trees::tag_at_plain, crate::proofs::Trees::tag_at_selected, crate::proofs::Trees::tag_at_list, crate::proofs::Trees::tag_at_constructed))]
+pub fn is_tagged<'a>(notation: &'a TypeNotation<'a>) -> bool
+    ensures { result ≡ has_tag_before notation.now }
+{
+    match notation {
+        TypeNotation::Tagged(_, _) => true,
+        TypeNotation::Constrained(inner, _) => is_tagged(inner),
+        TypeNotation::Plain(_) => false,
+        TypeNotation::Selected(_, _) => false,
+        TypeNotation::ListOf(_, _) => false,
+        TypeNotation::Constructed(_, _) => false,
+    }
+}
+
+/// Whether the word of a type in braces is CHOICE: it is neither SEQUENCE nor SET.
+pub fn is_choice(word: Token<'_>) -> bool
+    ensures { result ≡ is_choice word.entry }
+{
+    !is_word(word, b"SEQUENCE") && !is_word(word, b"SET")
+}
+
+/// Whether a type is a CHOICE without a tag, before the constraints after it (X.680, 30.6 c).
+#[tactic(auto, using(crate::proofs::Trees::choice_at_tagged, crate::proofs::Trees::choice_at_constrained, crate::proofs::Trees::choice_at_plain, crate::proofs::Trees::choice_at_selected, crate::proofs::Trees::choice_at_list, crate::proofs::Trees::choice_at_constructed))]
+pub fn is_untagged_choice<'a>(notation: &'a TypeNotation<'a>) -> bool
+    ensures { result ≡ is_untagged_choice notation.now }
+{
+    match notation {
+        TypeNotation::Constructed(word, _) => is_choice(*word),
+        TypeNotation::Constrained(inner, _) => is_untagged_choice(inner),
+        TypeNotation::Tagged(_, _) => false,
+        TypeNotation::Plain(_) => false,
+        TypeNotation::Selected(_, _) => false,
+        TypeNotation::ListOf(_, _) => false,
+    }
 }
 
 /// A type without the constraints after it.
@@ -70,7 +110,9 @@ pub fn reference_meaning<'a>(
 }
 
 /// The type that an assignment gives a name.
-pub fn assigned_type<'a>(scope: Scope<'a>, place: AssignmentPlace) -> Option<TypeAt<'a>> {
+pub fn assigned_type<'a>(scope: Scope<'a>, place: AssignmentPlace) -> Option<TypeAt<'a>>
+    ensures { IfSome result (λ at. IsAssignedAt scope.entry place at.module at.notation.now) }
+{
     let notation = type_assigned(assignment_at(scope.modules, place)?)?;
     Some(TypeAt {
         module: place.module,

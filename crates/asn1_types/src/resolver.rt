@@ -1,4 +1,6 @@
 //! What is known while the types of modules are resolved.
+ghost use Rattle.std.specs.Prelude.{◌≡◌};
+ghost use Rattle.asn1_types.specs.Tags.{environment_of};
 
 use crate::model::{Body, Definition, Loosening, Looser, Place, TagLayer};
 use crate::problem::{Problem, Stop};
@@ -98,7 +100,9 @@ pub fn state_of(r: &Resolver<'_>, place: AssignmentPlace) -> State {
 }
 
 /// Records how far the assignment at a place is resolved.
-pub fn set_state(r: &mut Resolver<'_>, place: AssignmentPlace, state: State) {
+pub fn set_state(r: &mut Resolver<'_>, place: AssignmentPlace, state: State)
+    ensures { r.new.scope ≡ r.old.scope }
+{
     if let Some(row) = r.states.get_mut(place.module)
         && let Some(slot) = row.get_mut(place.assignment)
     {
@@ -107,7 +111,9 @@ pub fn set_state(r: &mut Resolver<'_>, place: AssignmentPlace, state: State) {
 }
 
 /// The tags of a module (X.680, 13.2).
-pub fn environment(r: &Resolver<'_>, module: usize) -> TagDefault {
+pub fn environment(r: &Resolver<'_>, module: usize) -> TagDefault
+    ensures { result ≡ environment_of r.now.scope.modules.now «module» }
+{
     match r.scope.modules.get(module) {
         Some(module) => module.tags,
         None => TagDefault::Omitted,
@@ -115,7 +121,9 @@ pub fn environment(r: &Resolver<'_>, module: usize) -> TagDefault {
 }
 
 /// Records that a notation accepts more than a module says.
-pub fn note(r: &mut Resolver<'_>, place: Place, what: Loosening) -> Result<(), Stop> {
+pub fn note(r: &mut Resolver<'_>, place: Place, what: Loosening) -> Result<(), Stop>
+    ensures { r.new.scope ≡ r.old.scope }
+{
     r.work.looser.push(Looser { place, what })?;
     Ok(())
 }
@@ -126,7 +134,9 @@ pub fn begin<'a>(
     place: AssignmentPlace,
     name: &'a [u8],
     parameters: &'a [Token<'a>],
-) -> Result<Work<'a>, Stop> {
+) -> Result<Work<'a>, Stop>
+    ensures { r.new.scope ≡ r.old.scope }
+{
     let mut path = Vec::new(r.alloc);
     path.push(name)?;
     let is_exported = match r.scope.modules.get(place.module) {
@@ -153,7 +163,9 @@ fn copied<'a>(alloc: Global, names: &[&'a [u8]]) -> Result<Vec<&'a [u8]>, Stop> 
 }
 
 /// Takes what was recorded by `note`.
-pub fn take_looser(r: &mut Resolver<'_>) -> Vec<Looser> {
+pub fn take_looser(r: &mut Resolver<'_>) -> Vec<Looser>
+    ensures { r.new.scope ≡ r.old.scope }
+{
     std::mem::replace(&mut r.work.looser, Vec::new(r.alloc))
 }
 
@@ -164,7 +176,9 @@ pub fn add_definition<'a>(
     tags: Vec<TagLayer>,
     body: Body<'a>,
     looser: Vec<Looser>,
-) -> Result<usize, Stop> {
+) -> Result<usize, Stop>
+    ensures { r.new.scope ≡ r.old.scope }
+{
     let path = copied(r.alloc, r.work.path.as_slice())?;
     let set = set_of_body(r, tags.as_slice(), &body)?;
     let index = r.definitions.len();

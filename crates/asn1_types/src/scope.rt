@@ -1,5 +1,6 @@
 //! What a name means in a module (X.680, 13.10 to 13.17).
 ghost use Rattle.std.specs.Prelude.{◌≡◌, IfSome};
+ghost use Rattle.asn1_types.specs.Names.{IsAssignmentAt, TypeAssigned};
 
 use crate::model::KnownType;
 use crate::problem::{Problem, ProblemKind, problem_at};
@@ -46,7 +47,9 @@ pub fn assigned_name<'a>(assignment: &Assignment<'a>) -> Token<'a> {
 }
 
 /// The type that an assignment assigns, with parameters or without.
-pub fn type_assigned<'a>(assignment: &'a Assignment<'a>) -> Option<&'a TypeNotation<'a>> {
+pub fn type_assigned<'a>(assignment: &'a Assignment<'a>) -> Option<&'a TypeNotation<'a>>
+    ensures { IfSome result (λ notation. TypeAssigned assignment.now notation.now) }
+{
     match assignment {
         Assignment::Type(_, notation) | Assignment::ParameterizedType(_, _, notation) => {
             Some(notation)
@@ -75,7 +78,9 @@ pub fn assignment_index(module: &Module<'_>, name: &[u8]) -> Option<usize> {
 pub fn assignment_at<'a>(
     modules: &'a [Module<'a>],
     place: AssignmentPlace,
-) -> Option<&'a Assignment<'a>> {
+) -> Option<&'a Assignment<'a>>
+    ensures { IfSome result (λ assignment. IsAssignmentAt modules.now place assignment.now) }
+{
     let module = modules.get(place.module)?;
     module.assignments.get(place.assignment)
 }

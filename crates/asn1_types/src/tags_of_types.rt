@@ -124,22 +124,6 @@ pub fn set_of(r: &Resolver<'_>, notation: &Notation) -> Result<TagSet, Stop> {
     }
 }
 
-/// Whether a notation is of an untagged CHOICE or an open type (X.680, 30.6 c).
-pub fn is_untagged(r: &Resolver<'_>, notation: &Notation) -> bool {
-    match notation {
-        Notation::Any => true,
-        Notation::Defined(index) => match r.tag_sets.get(*index) {
-            Some(set) => set.is_untagged,
-            None => true,
-        },
-        Notation::Imported(index) => match r.scope.known.get(*index) {
-            Some(known) => known.is_untagged,
-            None => true,
-        },
-        _ => false,
-    }
-}
-
 // The tags of all alternatives.
 fn set_of_alternatives(r: &Resolver<'_>, alternatives: &[Alternative<'_>]) -> Result<TagSet, Stop> {
     let mut all = TagSet {

@@ -1,10 +1,19 @@
 //! Lists of lexical items, as a tree keeps constraints, values and named numbers.
+ghost use Rattle.std.specs.Prelude.{◌≡◌};
+ghost use Rattle.std.specs.Str.{bytes_eq};
 
 use asn1_syntax::{Token, TokenKind};
 
 /// Whether a lexical item has this text.
 pub fn is(token: Token<'_>, text: &[u8]) -> bool {
     token.text == text
+}
+
+/// Whether a lexical item is this reserved word.
+pub fn is_word(token: Token<'_>, word: &[u8]) -> bool
+    ensures { result ≡ bytes_eq token.entry.text.now word.now }
+{
+    token.text == word
 }
 
 /// Whether a lexical item with this text is in a list.

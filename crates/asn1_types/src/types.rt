@@ -1,16 +1,23 @@
 //! Types, of whatever depth.
+ghost use Rattle.std.specs.Prelude.{◌≡◌, IfOk, slice_get};
+ghost use Rattle.asn1_types.specs.Components.{ArePartsOf, IsPartOf};
+ghost use Rattle.asn1_types.specs.Names.{IsAssignedAt};
+ghost use Rattle.asn1_types.specs.Trees.{is_choice, is_untagged_choice};
+ghost use Rattle.asn1_types.specs.Types.{IsDeclaredAs, IsKnown, IsNamedType, IsPlainType, IsType, is_untagged_known};
 
-use crate::bodies::{body_of, extension_of, finished, layers, note_constraints, numbers_of};
+use crate::bodies::{
+    NumberedPart, body_of, extension_of, finished, layers, note_constraints, numbered_parts,
+};
 use crate::builtins::{Builtin, builtin_of};
-use crate::components::{WrittenPart, WrittenParts, written_parts};
+use crate::components::{WrittenParts, written_parts};
 use crate::cores::{
-    TypeAt, assigned_type, braces, core, first_word, place_of, reference_meaning, unconstrained,
-    untagged,
+    TypeAt, assigned_type, braces, core, first_word, is_choice, is_untagged_choice, place_of,
+    reference_meaning, unconstrained, untagged,
 };
 use crate::enumerations::enumeration;
-use crate::model::{Body, Components, Notation, Part, Place};
-use crate::open_types::open_notation;
-use crate::plain::{at, builtin_notation, constrained, list_of, recursive, tagged};
+use crate::model::{Body, Components, KnownType, Notation, Part, Place};
+use crate::open_types::open_type;
+use crate::plain::{Typed, at, builtin_type, constrained, list_of, recursive, tagged, with_tag};
 use crate::problem::{Problem, ProblemKind, Stop, problem_at};
 use crate::resolver::{Resolver, State, add_definition, begin, set_state, state_of, take_looser};
 use crate::scope::{AssignmentPlace, Meaning, assigned_name, assignment_at, parameters_of};
@@ -30,9 +37,13 @@ fn too_deep(at: TypeAt<'_>) -> Stop {
     })
 }
 
-/// The notation of a type. What is declared inside it becomes definitions.
+/// A type. What is declared inside it becomes definitions.
 #[cycle(types)]
-pub fn notation<'a>(r: &mut Resolver<'a>, at: TypeAt<'a>, depth: usize) -> Result<Notation, Stop> {
+#[tactic(auto, using(crate::proofs::Typing::plain_of, crate::proofs::Typing::tagged_of, crate::proofs::Typing::constrained_of, crate::proofs::Typing::list_of, crate::proofs::Typing::selected_of, crate::proofs::Typing::constructed_of))]
+pub fn notation<'a>(r: &mut Resolver<'a>, at: TypeAt<'a>, depth: usize) -> Result<Typed, Stop>
+    ensures scope { r.new.scope ≡ r.old.scope }
+    ensures type_of { IfOk result (IsType r.old.scope at.entry.module at.entry.notation.now) }
+{
     if depth == 0 {
         return Err(too_deep(at));
     }
@@ -50,21 +61,24 @@ pub fn notation<'a>(r: &mut Resolver<'a>, at: TypeAt<'a>, depth: usize) -> Resul
             r.work.path.push(b"item")?;
             let element = notation(r, inside(at, inner), depth - 1)?;
             r.work.path.pop();
-            list_of(r, at.module, head.word, &head.size, element)
+            list_of(r, at.module, head, element)
         }
-        TypeNotation::Constructed(_, _) => {
-            let index = define(r, at, depth - 1)?;
-            Ok(Notation::Defined(index))
+        TypeNotation::Constructed(word, components) => {
+            define(r, at, *word, components.as_slice(), depth - 1)
         }
         TypeNotation::Constrained(inner, constraints) => {
-            let unbounded = notation(r, inside(at, inner), depth - 1)?;
-            constrained(r, inside(at, inner), unbounded, constraints.as_slice())
+            let inner = inside(at, inner);
+            let unbounded = notation(r, inner, depth - 1)?;
+            constrained(r, inner, unbounded, constraints.as_slice())
         }
     }
 }
 
 // A type inside another one.
-fn inside<'a>(at: TypeAt<'a>, notation: &'a TypeNotation<'a>) -> TypeAt<'a> {
+fn inside<'a>(at: TypeAt<'a>, notation: &'a TypeNotation<'a>) -> TypeAt<'a>
+    ensures in_module { result.module ≡ at.entry.module }
+    ensures notation { result.notation.now ≡ notation.now }
+{
     TypeAt {
         module: at.module,
         notation,
@@ -113,28 +127,63 @@ fn plain_notation<'a>(
     at: TypeAt<'a>,
     plain: &'a PlainType<'a>,
     depth: usize,
-) -> Result<Notation, Stop> {
+) -> Result<Typed, Stop>
+    ensures scope { r.new.scope ≡ r.old.scope }
+    ensures type_of { IfOk result (IsPlainType r.old.scope at.entry.module plain.now) }
+{
     let Some(word) = plain.words.first().copied() else {
         return Err(too_deep(at));
     };
     if let Some(builtin) = builtin_of(word.text) {
         if matches!(builtin, Builtin::Enumerated) {
             let index = define_enumeration(r, at)?;
-            return Ok(Notation::Defined(index));
+            return Ok(with_tag(Notation::Defined(index)));
         }
-        return builtin_notation(r, at.module, word, builtin, plain);
+        return builtin_type(r, at.module, word, builtin, plain);
     }
-    if let Some(open) = open_notation(r, at, plain)? {
+    if let Some(open) = open_type(r, at, plain)? {
         return Ok(open);
     }
     match reference_meaning(r.scope, at.module, plain)? {
-        Meaning::Known(index) => Ok(Notation::Imported(index)),
+        Meaning::Known(index) => Ok(known_type(r.scope.known, index)),
         Meaning::Assigned(place) => reference(r, at, place, depth),
     }
 }
 
+// Whether a type of another crate is untagged.
+fn is_untagged_known(known: &[KnownType<'_>], index: usize) -> bool
+    ensures { result ≡ is_untagged_known (slice_get known.now index) }
+{
+    match known.get(index) {
+        Some(known) => known.is_untagged,
+        None => true,
+    }
+}
+
+// A type of another crate.
+fn known_type(known: &[KnownType<'_>], index: usize) -> Typed
+    ensures { IsKnown known.now result }
+{
+    Typed {
+        notation: Notation::Imported(index),
+        is_untagged: is_untagged_known(known, index),
+    }
+}
+
+// The type of a definition, of the type that it declares.
+fn declared_type<'a>(assigned: &'a TypeNotation<'a>, index: usize) -> Typed
+    ensures { IsDeclaredAs (is_untagged_choice assigned.now) result }
+{
+    Typed {
+        notation: Notation::Defined(index),
+        is_untagged: is_untagged_choice(assigned),
+    }
+}
+
 // An ENUMERATED inside another type, as a definition.
-fn define_enumeration<'a>(r: &mut Resolver<'a>, at: TypeAt<'a>) -> Result<usize, Stop> {
+fn define_enumeration<'a>(r: &mut Resolver<'a>, at: TypeAt<'a>) -> Result<usize, Stop>
+    ensures { r.new.scope ≡ r.old.scope }
+{
     let items = enumeration(r.alloc, r.scope, at.module, braces(at.notation))?;
     let tags = Vec::new(r.alloc);
     let looser = Vec::new(r.alloc);
@@ -146,7 +195,9 @@ fn type_of<'a>(
     r: &Resolver<'a>,
     user: Place,
     place: AssignmentPlace,
-) -> Result<TypeAt<'a>, Problem> {
+) -> Result<TypeAt<'a>, Problem>
+    ensures { IfOk result (λ at. IsAssignedAt r.now.scope place at.module at.notation.now) }
+{
     match assigned_type(r.scope, place) {
         Some(assigned) => Ok(assigned),
         None => Err(Problem {
@@ -164,13 +215,16 @@ fn reference<'a>(
     user: TypeAt<'a>,
     place: AssignmentPlace,
     depth: usize,
-) -> Result<Notation, Stop> {
+) -> Result<Typed, Stop>
+    ensures scope { r.new.scope ≡ r.old.scope }
+    ensures type_of { IfOk result (IsNamedType r.old.scope) }
+{
     let assigned = type_of(r, place_of(user), place)?;
     if matches!(state_of(r, place), State::Unresolved) {
         assign(r, place, assigned, depth)?;
     }
     match state_of(r, place) {
-        State::Defined(index) => Ok(Notation::Defined(index)),
+        State::Defined(index) => Ok(declared_type(assigned.notation, index)),
         State::Alias(index) => {
             set_state(r, place, State::Open);
             let notation = notation(r, assigned, depth)?;
@@ -196,7 +250,9 @@ pub fn assign<'a>(
     place: AssignmentPlace,
     assigned: TypeAt<'a>,
     depth: usize,
-) -> Result<(), Stop> {
+) -> Result<(), Stop>
+    ensures { r.new.scope ≡ r.old.scope }
+{
     let Some(assignment) = assignment_at(r.scope.modules, place) else {
         return Ok(());
     };
@@ -238,7 +294,9 @@ fn definition<'a>(
     at: TypeAt<'a>,
     place: Place,
     depth: usize,
-) -> Result<State, Stop> {
+) -> Result<State, Stop>
+    ensures { r.new.scope ≡ r.old.scope }
+{
     let inner = untagged(at.notation);
     if let TypeNotation::Constructed(word, components) = inner {
         let body = body(r, at.module, *word, components.as_slice(), depth)?;
@@ -248,7 +306,7 @@ fn definition<'a>(
         let items = enumeration(r.alloc, r.scope, at.module, braces(inner))?;
         return defined(r, at, place, Body::Enumerated(items));
     }
-    let notation = notation(r, at, depth)?;
+    let notation = notation(r, at, depth)?.notation;
     let tags = Vec::new(r.alloc);
     let looser = take_looser(r);
     if is_declared(r, at) {
@@ -273,7 +331,9 @@ fn defined<'a>(
     at: TypeAt<'a>,
     place: Place,
     body: Body<'a>,
-) -> Result<State, Stop> {
+) -> Result<State, Stop>
+    ensures { r.new.scope ≡ r.old.scope }
+{
     let tags = layers(r, at, matches!(body, Body::Choice(_)))?;
     note_constraints(r, at)?;
     let looser = take_looser(r);
@@ -283,16 +343,26 @@ fn defined<'a>(
 
 // Adds the definition of a SEQUENCE, a SET or a CHOICE inside another type.
 #[cycle(types)]
-fn define<'a>(r: &mut Resolver<'a>, at: TypeAt<'a>, depth: usize) -> Result<usize, Stop> {
-    let TypeNotation::Constructed(word, components) = at.notation else {
-        return Err(too_deep(at));
-    };
+fn define<'a>(
+    r: &mut Resolver<'a>,
+    at: TypeAt<'a>,
+    word: Token<'a>,
+    components: &'a [Component<'a, TypeNotation<'a>>],
+    depth: usize,
+) -> Result<Typed, Stop>
+    ensures scope { r.new.scope ≡ r.old.scope }
+    ensures type_of { IfOk result (IsDeclaredAs (is_choice word.entry)) }
+{
     let outer = take_looser(r);
-    let body = body(r, at.module, *word, components.as_slice(), depth)?;
+    let body = body(r, at.module, word, components, depth)?;
     let looser = take_looser(r);
     r.work.looser = outer;
     let tags = Vec::new(r.alloc);
-    add_definition(r, place_of(at), tags, body, looser)
+    let index = add_definition(r, place_of(at), tags, body, looser)?;
+    Ok(Typed {
+        notation: Notation::Defined(index),
+        is_untagged: is_choice(word),
+    })
 }
 
 // The body of a SEQUENCE, a SET or a CHOICE.
@@ -303,7 +373,9 @@ fn body<'a>(
     word: Token<'a>,
     components: &'a [Component<'a, TypeNotation<'a>>],
     depth: usize,
-) -> Result<Body<'a>, Stop> {
+) -> Result<Body<'a>, Stop>
+    ensures { r.new.scope ≡ r.old.scope }
+{
     let written = written_parts(r.alloc, r.scope, module, components, MAX_DEPTH)?;
     let parts = parts(r, module, &written, depth)?;
     let extension = extension_of(r, module, &written);
@@ -317,11 +389,14 @@ fn parts<'a>(
     module: usize,
     written: &WrittenParts<'a>,
     depth: usize,
-) -> Result<Vec<Part<'a>>, Stop> {
-    let numbers = numbers_of(r, module, written.parts.as_slice())?;
+) -> Result<Vec<Part<'a>>, Stop>
+    ensures scope { r.new.scope ≡ r.old.scope }
+    ensures parts { IfOk result (λ parts. ArePartsOf r.old.scope «module» written.now.parts.items parts.items) }
+{
+    let numbered = numbered_parts(r, module, written.parts.as_slice())?;
     let mut parts = Vec::new(r.alloc);
-    for (source, number) in written.parts.iter().zip(numbers.iter()) {
-        let part = part(r, *source, *number, depth)?;
+    for source in &numbered {
+        let part = part(r, *source, depth)?;
         parts.push(part)?;
     }
     Ok(parts)
@@ -331,16 +406,18 @@ fn parts<'a>(
 #[cycle(types)]
 fn part<'a>(
     r: &mut Resolver<'a>,
-    source: WrittenPart<'a>,
-    number: Option<usize>,
+    numbered: NumberedPart<'a>,
     depth: usize,
-) -> Result<Part<'a>, Stop> {
-    r.work.path.push(source.name.text)?;
+) -> Result<Part<'a>, Stop>
+    ensures scope { r.new.scope ≡ r.old.scope }
+    ensures part { IfOk result (IsPartOf r.old.scope numbered.entry) }
+{
+    r.work.path.push(numbered.source.name.text)?;
     let at = TypeAt {
-        module: source.module,
-        notation: source.notation,
+        module: numbered.source.module,
+        notation: numbered.source.notation,
     };
     let notation = notation(r, at, depth)?;
     r.work.path.pop();
-    finished(r, source, at, notation, number)
+    finished(r, numbered, at, notation)
 }

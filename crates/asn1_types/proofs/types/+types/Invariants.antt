@@ -1,4 +1,5 @@
-use Rattle.std.proofs.Common.{◌*◌, ◌+◌}
+use Rattle.std.proofs.Common.{◌≡◌, ◌*◌, ◌+◌, take}
+use Rattle.asn1_types.specs.Components.{AreParts}
 use Rattle.asn1_types.proofs.types.+types.Given as goal
 
 abbrev pub decreases-notation : goal.decreases-notation
@@ -27,3 +28,6 @@ decreases-reference l = 8 * l.depth + 6
 
 abbrev pub decreases-plain_notation : goal.decreases-plain_notation
 decreases-plain_notation l = 8 * l.depth + 7
+
+abbrev pub invariant-parts-loop-source : goal.invariant-parts-loop-source
+invariant-parts-loop-source l = (l.r.scope ≡ l.fn.r.scope) × AreParts l.fn.r.scope (take l.source-index l.numbered.items) l.parts.items
