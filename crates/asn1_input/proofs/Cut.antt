@@ -11,11 +11,11 @@ use Rattle.asn1_input.specs.Blocks.{lines_of}
 abbrev pub IsFirstEnd : List ℕ → Option ℕ → Type 0
 IsFirstEnd text r = r ≡ cond (ltb (position_or_len (λ c. c == 10) text) (length text)) (Some (position_or_len (λ c. c == 10) text)) None
 
-picked : (b : Bool) (p n : ℕ) → Some n ≡ cond b (Some p) None → (b ≡ true) × (p ≡ n)
+pub picked : (b : Bool) (p n : ℕ) → Some n ≡ cond b (Some p) None → (b ≡ true) × (p ≡ n)
 picked true p n e = (refl, ap (λ z. unwrap_or z 0) (sym e))
 picked false p n e = absurd (cc)
 
-not_picked : (b : Bool) (p : ℕ) → None ≡ cond b (Some p) None → b ≡ false
+pub not_picked : (b : Bool) (p : ℕ) → None ≡ cond b (Some p) None → b ≡ false
 not_picked true p e = absurd (cc)
 not_picked false p e = refl
 

@@ -8,3 +8,4 @@ pub mod Body
 pub mod Opening
 pub mod FirstError
 pub mod PieceByPiece
+pub mod HexPieces

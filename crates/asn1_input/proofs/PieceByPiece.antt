@@ -1,12 +1,11 @@
 -- The pieces of bytes, one after the other.
-use Rattle.std.proofs.Common.{◌≡◌, ◌<◌, ◌≤◌, ◌+◌, ℕ, zero, suc, List, [], length, ap, ◌∙◌, sym, subst, refl, length-append, arith}
+use Rattle.std.proofs.Common.{◌≡◌, ◌<◌, ℕ, suc, List, [], length, ap, ◌∙◌, length-append, arith}
 use Rattle.yasna_base.specs.declared.mode.BERMode.{BERMode}
-use Rattle.yasna_base.specs.declared.mode.BERMode.TheVariants.{Ber}
 use Rattle.yasna_base.proofs.Identifier.{begins_some}
 use Rattle.yasna_base.proofs.Raw.{raw_starts}
 use Rattle.yasna_bytes.specs.Walk.{TakesRaw, element_of}
 use Rattle.yasna_bytes.specs.declared.bytes.walk.RawElement.{RawElement}
-use Rattle.asn1_input.specs.Pieces.{ArePieces, BeginsWith, HasOther, IsFirstPiece}
+use Rattle.asn1_input.specs.Pieces.{ArePieces, HasOther, IsFirstPiece}
 
 -- fewer bytes are left after an element
 pub taken_shorter : (m : BERMode) (n : ℕ) (s : List ℕ) (x : RawElement) (r : List ℕ) → TakesRaw m n s x r → length r < length s

@@ -1,15 +1,22 @@
 -- The formats of an input.
-use Rattle.std.specs.Prelude.{◌≡◌, ◌⊎◌, ◌≤◌, ℕ, List, ◌∷◌, ◌++◌, Option, Some, None, IsTrue}
+use Rattle.std.specs.Prelude.{◌≡◌, ◌⊎◌, ◌≤◌, ◌||◌, ℕ, List, ◌∷◌, ◌++◌, Option, Some, None, IsTrue}
 use Rattle.std.specs.Char.{is_ascii_hexdigit}
 use Rattle.std.specs.List.{AllByRecursion, Any}
-use Rattle.asn1_input.specs.Text.{is_in_hex, text_of, IsHex}
+use Rattle.asn1_input.specs.Text.{text_of}
+use Rattle.asn1_input.specs.Hex.{is_in_hex, is_x, layout_of, IsHex}
 use Rattle.asn1_input.specs.Blocks.{begin_boundary, lines_of, unindented, IsPem}
+use Rattle.asn1_input.specs.declared.hex_layout.HexLayout.{HexLayout}
+use Rattle.asn1_input.specs.declared.hex_layout.HexLayout.TheVariants.{Digits, Numbers, Xxd, Hexdump}
 use Rattle.asn1_input.specs.declared.input_format.InputFormat.{InputFormat}
 use Rattle.asn1_input.specs.declared.input_format.InputFormat.TheVariants.{Bytes, Hex, Pem}
 
 -- an octet of text: printed, a tab, a form feed or the end of a line
 abbrev pub IsText : ℕ → Type 0
 IsText c = ((c ≡ 9) ⊎ (c ≡ 12) ⊎ (c ≡ 13)) ⊎ ((32 ≤ c) × (c ≡ 127 → ⊥))
+
+-- an octet of lines of text
+abbrev pub IsTextOrEnd : ℕ → Type 0
+IsTextOrEnd c = (c ≡ 10) ⊎ IsText c
 
 -- a line begins as the first line of a block does; it may be indented
 abbrev pub BeginsAsBlock : List ℕ → Type 0
@@ -32,11 +39,22 @@ pub record AreHexDigits (text : List ℕ) : Type 0 where
   pub all : AllByRecursion (λ c. IsTrue (is_in_hex c)) text
   pub some : Any (λ c. IsTrue (is_ascii_hexdigit c)) text
 
+-- a text in this layout is hexadecimal: in numbers there are no other letters than x, and dumps are lines of text
+abbrev pub IsHexIn : HexLayout → List ℕ → Type 0
+IsHexIn Digits text = AreHexDigits text
+IsHexIn Numbers text = AllByRecursion (λ c. IsTrue (is_in_hex c || is_x c)) text
+IsHexIn Xxd text = AllByRecursion IsTextOrEnd text
+IsHexIn Hexdump text = AllByRecursion IsTextOrEnd text
+
+-- a text is hexadecimal
+abbrev pub IsHexText : List ℕ → Type 0
+IsHexText text = IsHexIn (layout_of text) text
+
 -- the format that a text is detected as
 abbrev pub IsDetectedIn : List ℕ → InputFormat → Type 0
 IsDetectedIn text Pem = BeginsAfterText text
-IsDetectedIn text Hex = (BeginsAfterText text → ⊥) × AreHexDigits text
-IsDetectedIn text Bytes = (BeginsAfterText text → ⊥) × (AreHexDigits text → ⊥)
+IsDetectedIn text Hex = (BeginsAfterText text → ⊥) × IsHexText text
+IsDetectedIn text Bytes = (BeginsAfterText text → ⊥) × (IsHexText text → ⊥)
 
 -- the format that an input is detected as: that of its text
 abbrev pub IsDetected : List ℕ → InputFormat → Type 0

@@ -1,12 +1,9 @@
--- Bytes as text, in hexadecimal and in base64 (RFC 4648, 4).
-use Rattle.std.specs.Prelude.{◌≡◌, ◌==◌, ◌||◌, ◌+◌, ◌-◌, ◌^◌, min, not, nat_eq, ℕ, Bool, cond, List, [], ◌∷◌, drop, filter, Ok}
-use Rattle.std.specs.Char.{is_ascii_alphanumeric, is_ascii_hexdigit, is_ascii_whitespace}
-use Rattle.std.specs.List.{position_or_len, starts_with}
-use Rattle.hex.specs.Hex.{decode_of as hex_of}
+-- Bytes as text, in base64 (RFC 4648, 4).
+use Rattle.std.specs.Prelude.{◌≡◌, ◌==◌, ◌||◌, not, nat_eq, ℕ, Bool, cond, List, [], ◌∷◌, drop, filter, Ok}
+use Rattle.std.specs.Char.{is_ascii_alphanumeric, is_ascii_whitespace}
+use Rattle.std.specs.List.{starts_with}
 use Rattle.base64.specs.Engines.{standard}
 use Rattle.base64.specs.GeneralPurpose.{decode_of as base64_of}
-use Rattle.yasna_base.specs.declared.error.ASN1ErrorKind.{ASN1ErrorKind}
-use Rattle.yasna_base.specs.declared.error.ASN1ErrorKind.TheVariants.{Invalid}
 use Rattle.asn1show_walk.specs.declared.error.WalkError.{WalkError}
 use Rattle.asn1show_walk.specs.declared.error.WalkError.TheVariants.{Memory}
 
@@ -21,28 +18,6 @@ byte_order_mark = 239 ∷ 187 ∷ 191 ∷ []
 -- the text of an input: a byte order mark at its start is no part of it
 abbrev pub text_of : List ℕ → List ℕ
 text_of input = cond (starts_with nat_eq input byte_order_mark) (drop 3 input) input
-
--- a separator of hexadecimal digits: a space, a line end, a colon or a comma
-abbrev pub is_between : ℕ → Bool
-is_between c = is_ascii_whitespace c || c == 58 || c == 44
-
--- an octet of a text in hexadecimal
-abbrev pub is_in_hex : ℕ → Bool
-is_in_hex c = is_ascii_hexdigit c || is_between c
-
--- the hexadecimal digits of a text
-abbrev pub digits_of : List ℕ → List ℕ
-digits_of text = filter (λ c. not (is_between c)) text
-
--- a text encodes the bytes in hexadecimal
-abbrev pub IsHex : List ℕ → List ℕ → Type 0
-IsHex text bytes = hex_of (digits_of text) ≡ Ok bytes
-
--- a text that begins at an offset encodes no bytes in hexadecimal: its first octet that is neither a digit nor a separator is reported, else its end
-pub record IsNoHex (text : List ℕ) (start offset : ℕ) (kind : ASN1ErrorKind) : Type 0 where
-  pub none : (bytes : List ℕ) → IsHex text bytes → ⊥
-  pub place : offset ≡ min (start + position_or_len (λ c. not (is_in_hex c)) text) (2 ^ 64 - 1)
-  pub invalid : kind ≡ Invalid
 
 -- white space or a digit of base64 (padding, `=`, is none)
 abbrev pub is_in_base64 : ℕ → Bool

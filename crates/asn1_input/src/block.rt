@@ -43,7 +43,7 @@ fn encrypted(offset: usize) -> WalkError
     }
 }
 
-fn is_blank(line: &[u8]) -> bool
+pub fn is_blank(line: &[u8]) -> bool
     ensures { result ≡ is_blank line.now }
 {
     line.iter().all(|octet| octet.is_ascii_whitespace())

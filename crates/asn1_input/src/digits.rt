@@ -3,11 +3,13 @@ ghost use Rattle.std.specs.Prelude.{◌≡◌, ◌++◌, ◌+◌, ◌^◌, ◌-�
 ghost use Rattle.std.specs.List.{concat, position_or_len};
 ghost use Rattle.yasna_base.specs.declared.error.ASN1ErrorKind.TheVariants.{Invalid};
 ghost use Rattle.asn1_input.specs.Reader.{base64_place, first_stray, has_stray, octet_place, texts, NoBase64};
-ghost use Rattle.asn1_input.specs.Text.{base64_of_text, digits_of, is_between, is_in_base64, is_in_hex, text_of, IsBase64, IsHex, IsNoHex, IsMemoryError};
+ghost use Rattle.asn1_input.specs.Hex.{digits_of, is_in_hex, AreDigits, AreNoDigits, IsHex, IsNoHex};
+ghost use Rattle.asn1_input.specs.Text.{base64_of_text, is_in_base64, text_of, IsBase64, IsMemoryError};
 ghost use Rattle.asn1show_walk.specs.Errors.{IsMalformed, WalkFails};
 ghost use Rattle.asn1show_walk.specs.declared.error.WalkError.TheVariants.{Malformed};
 
 use crate::block::TextLine;
+use crate::hex_layout::{bare_text, is_between_digits, is_in_hex, layout_of};
 use asn1show_walk::{Expected, WalkError};
 use base64::engine::general_purpose::STANDARD;
 use base64::{DecodeAllocError, DecodeError};
@@ -29,20 +31,6 @@ pub fn text_of(input: &[u8]) -> &[u8]
     }
 }
 
-/// Whether an octet may be between hexadecimal digits: a space, a line end, a colon or a comma.
-pub fn is_between_digits(octet: u8) -> bool
-    ensures { result ≡ is_between octet }
-{
-    octet.is_ascii_whitespace() || octet == b':' || octet == b','
-}
-
-/// Whether an octet is one of a text in hexadecimal: a digit, or between digits.
-pub fn is_in_hex(octet: u8) -> bool
-    ensures { result ≡ is_in_hex octet }
-{
-    octet.is_ascii_hexdigit() || is_between_digits(octet)
-}
-
 // Whether an octet is white space or a digit of base64.
 fn is_in_base64(octet: u8) -> bool
     ensures { result ≡ is_in_base64 octet }
@@ -50,7 +38,7 @@ fn is_in_base64(octet: u8) -> bool
     octet.is_ascii_whitespace() || octet.is_ascii_alphanumeric() || octet == b'+' || octet == b'/'
 }
 
-// Appends the hexadecimal digits of a text.
+// Appends the digits of a text of digits and separators.
 fn push_digits(digits: &mut Vec<u8>, text: &[u8]) -> Result<(), AllocError>
     ensures { OnOk result (digits.new.items ≡ digits.old.items ++ digits_of text.now) }
 {
@@ -95,7 +83,7 @@ fn malformed(offset: usize, expected: Expected) -> WalkError
     }
 }
 
-// Why a text that begins at this offset isn't hexadecimal.
+// Why a text that begins at this offset isn't digits and separators that encode bytes.
 fn malformed_hex(text: &[u8], start: usize) -> WalkError
     ensures { IsMalformed (λ offset kind.
         (offset ≡ min (start + position_or_len (λ c. not (is_in_hex c)) text.now) (2 ^ 64 - 1)) × (kind ≡ Invalid)) result }
@@ -106,10 +94,10 @@ fn malformed_hex(text: &[u8], start: usize) -> WalkError
     }
 }
 
-/// The bytes of a text in hexadecimal, which begins at this offset.
-pub fn decode_hex(alloc: Global, text: &[u8], start: usize) -> Result<Vec<u8>, WalkError>
-    ensures ok { IfOk result (λ bytes. IsHex text.now bytes.items) }
-    ensures malformed { IfErr result (λ f. WalkFails IsMemoryError (IsNoHex text.now start) f) }
+// The bytes of a text of digits and separators, which begins at this offset.
+fn decode_digits(alloc: Global, text: &[u8], start: usize) -> Result<Vec<u8>, WalkError>
+    ensures ok { IfOk result (λ bytes. AreDigits text.now bytes.items) }
+    ensures malformed { IfErr result (λ f. WalkFails IsMemoryError (AreNoDigits text.now start) f) }
 {
     let mut digits = Vec::new(alloc);
     push_digits(&mut digits, text)?;
@@ -117,6 +105,17 @@ pub fn decode_hex(alloc: Global, text: &[u8], start: usize) -> Result<Vec<u8>, W
         Ok(bytes) => Ok(bytes),
         Err(FromHexError::OutOfMemory) => Err(WalkError::Memory),
         Err(_) => Err(malformed_hex(text, start)),
+    }
+}
+
+/// The bytes of a text in hexadecimal, which begins at this offset. The text may be digits, numbers of C, or a dump.
+pub fn decode_hex(alloc: Global, text: &[u8], start: usize) -> Result<Vec<u8>, WalkError>
+    ensures ok { IfOk result (λ bytes. IsHex text.now bytes.items) }
+    ensures malformed { IfErr result (λ f. WalkFails IsMemoryError (IsNoHex text.now start) f) }
+{
+    match bare_text(alloc, layout_of(text), text) {
+        Ok(bare) => decode_digits(alloc, bare.as_slice(), start),
+        Err(_) => Err(WalkError::Memory),
     }
 }
 

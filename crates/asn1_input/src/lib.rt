@@ -3,6 +3,7 @@
 //! | Module | Holds |
 //! |---|---|
 //! | `input_format` | the format of an input |
+//! | `hex_layout` | how hexadecimal digits are laid out in a text |
 //! | `digits` | bytes from digits, in hexadecimal and in base64 |
 //! | `block` | the bytes of a block of PEM, from its lines |
 //! | `pem` | blocks of PEM, line by line |
@@ -11,6 +12,7 @@
 
 mod block;
 mod digits;
+mod hex_layout;
 mod input_format;
 mod pem;
 mod pieces;

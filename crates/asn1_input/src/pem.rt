@@ -25,8 +25,8 @@ pub fn cut_line(text: &[u8]) -> (&[u8], Option<&[u8]>)
     }
 }
 
-// A line without the white space at its start.
-fn unindented(line: &[u8]) -> &[u8]
+/// A text without the white space at its start.
+pub fn unindented(line: &[u8]) -> &[u8]
     ensures { result.now ≡ unindented line.now }
 {
     line.trim_ascii_start()

@@ -3,7 +3,8 @@ use Rattle.std.specs.Prelude.{◌⊎◌, ◌-◌, ℕ, List, length}
 use Rattle.yasna_base.specs.Grammar.{max_depth}
 use Rattle.yasna_base.specs.declared.error.ASN1ErrorKind.{ASN1ErrorKind}
 use Rattle.yasna_base.specs.declared.mode.BERMode.{BERMode}
-use Rattle.asn1_input.specs.Text.{text_of, IsHex, IsNoHex}
+use Rattle.asn1_input.specs.Text.{text_of}
+use Rattle.asn1_input.specs.Hex.{IsHex, IsNoHex}
 use Rattle.asn1_input.specs.Input.{HoldsEach}
 use Rattle.asn1_input.specs.declared.input_format.InputFormat.{InputFormat}
 use Rattle.asn1_input.specs.declared.input_format.InputFormat.TheVariants.{Bytes, Hex, Pem}

@@ -14,6 +14,7 @@
 //! | `examples` | none: it holds the pieces of code of README.md and docs/GUIDE.md |
 //! | `exact` | types that keep an element of any type as it came |
 //! | `guide` | these pieces, each once on bytes |
+//! | `hex_layouts` | hexadecimal digits as numbers of C and in dumps |
 //! | `known` | calls whose closures are known |
 //! | `lines` | the lines of the elements of any input |
 //! | `located` | where a parse failed |
@@ -49,6 +50,8 @@ mod exact;
 mod examples;
 #[cfg(test)]
 mod guide;
+#[cfg(test)]
+mod hex_layouts;
 #[cfg(test)]
 mod known;
 #[cfg(test)]

@@ -2,7 +2,7 @@ use Rattle.std.proofs.Common.{rules, tests, not, ◌∙◌, ◌+◌, ap, refl}
 use Rattle.std.specs.Prelude.{min}
 use Rattle.std.proofs.lemmas.Iterator.{YieldsList-from_slice}
 use Rattle.std.proofs.lemmas.Iterator.Search.{position_from_yields_List}
-use Rattle.asn1_input.specs.Text.{is_in_hex}
+use Rattle.asn1_input.specs.Hex.{is_in_hex}
 use Rattle.asn1_input.proofs.Cut.{Finds, found_first, none_found}
 use Rattle.asn1_input.proofs.Malformed.{malformed_is}
 use Rattle.asn1_input.proofs.digits.malformed_hex.Goals as goal

@@ -1,5 +1,5 @@
 use Rattle.std.proofs.Common.{◌≡◌, ◌++◌, drop}
-use Rattle.asn1_input.specs.Text.{digits_of}
+use Rattle.asn1_input.specs.Hex.{digits_of}
 use Rattle.asn1_input.proofs.digits.push_digits.Given as goal
 
 -- what is taken, and the digits that are left, are all

@@ -1,10 +1,10 @@
-use Rattle.std.proofs.Common.{◌≡◌, ◌≤◌, ◌<◌, ◌++◌, List, ℕ, length, refl, subst}
+use Rattle.std.proofs.Common.{◌≡◌, ◌<◌, ◌++◌, List, ℕ, length, refl, subst}
 use Rattle.yasna_base.specs.Grammar.{max_depth}
 use Rattle.yasna_base.specs.Raw.{IsRaw}
 use Rattle.yasna_base.specs.declared.mode.BERMode.TheVariants.{Ber}
 use Rattle.yasna_bytes.specs.Prefix.{HasPrefix}
-use Rattle.yasna_bytes.specs.Walk.{RejectsRaw, TakesRaw, element_of}
-use Rattle.asn1_input.specs.Pieces.{IsFirstPiece, element, no_element}
+use Rattle.yasna_bytes.specs.Walk.{TakesRaw, element_of}
+use Rattle.asn1_input.specs.Pieces.{element, no_element}
 use Rattle.asn1_input.proofs.PieceByPiece.{taken_shorter}
 use Rattle.asn1_input.proofs.pieces.first_piece.Goals as goal
 
