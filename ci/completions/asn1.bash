@@ -3,7 +3,7 @@
 _asn1() {
     local word=${COMP_WORDS[COMP_CWORD]} options=
     case $1 in
-        *asn1show) options='--ber --der --cer --hex --pem --bytes --check --depth --at --extract --contents --dump --json --module --type --decimal --width --help --version' ;;
+        *asn1show) options='--ber --der --cer --hex --pem --bytes --check --depth --at --extract --contents --dump --json --html --module --type --decimal --width --help --version' ;;
         *asn1der) options='--strict --help --version' ;;
         *asn1check) options='--ber --der --encode --help --version' ;;
         *asn1compile) options='--crate --out --type --use --list --check --strict --help --version' ;;

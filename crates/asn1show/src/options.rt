@@ -139,6 +139,14 @@ fn json_arg<'a>(alloc: Global, others: &'static [&'static str]) -> Result<Arg<'a
         .conflicts_with_all(others)
 }
 
+fn html_arg<'a>(alloc: Global, others: &'static [&'static str]) -> Result<Arg<'a>, AllocError> {
+    Arg::new(alloc, "html")
+        .long("html")
+        .action(ArgAction::SetTrue)
+        .help("Write the elements as a page of HTML")
+        .conflicts_with_all(others)
+}
+
 fn decimal_arg<'a>(alloc: Global) -> Arg<'a> {
     Arg::new(alloc, "decimal")
         .long("decimal")
@@ -203,8 +211,9 @@ fn push_values(alloc: Global, args: &mut Vec<Arg<'_>>) -> Result<(), AllocError>
     args.push(number_arg(alloc, "at", &["check", "extract"], AT_HELP)?)?;
     args.push(number_arg(alloc, "extract", &["check"], EXTRACT_HELP)?)?;
     args.push(contents_arg(alloc)?)?;
-    args.push(json_arg(alloc, &["check", "extract"])?)?;
-    args.push(dump_arg(alloc, &["extract", "json"])?)?;
+    args.push(json_arg(alloc, &["check", "extract", "html"])?)?;
+    args.push(html_arg(alloc, &["check", "extract"])?)?;
+    args.push(dump_arg(alloc, &["extract", "json", "html"])?)?;
     args.push(decimal_arg(alloc))?;
     args.push(width_arg(alloc))?;
     args.push(module_arg(alloc)?)?;
@@ -299,6 +308,8 @@ fn numbers_of(matches: &ArgMatches<'_>) -> Numbers {
 fn layout_of(matches: &ArgMatches<'_>) -> Layout {
     if matches.get_flag("json") {
         Layout::Json
+    } else if matches.get_flag("html") {
+        Layout::Html
     } else {
         Layout::Lines
     }
@@ -307,7 +318,7 @@ fn layout_of(matches: &ArgMatches<'_>) -> Layout {
 // The most hexadecimal digits of a value, if no option says it. In JSON values are whole.
 fn default_width(layout: Layout) -> usize {
     match layout {
-        Layout::Lines => WIDTH,
+        Layout::Lines | Layout::Html => WIDTH,
         Layout::Json => usize::MAX,
     }
 }

@@ -13,4 +13,5 @@ mod element;
 mod open_elements;
 mod printer;
 
+pub use open_elements::OpenElements;
 pub use printer::JsonPrinter;

@@ -12,6 +12,7 @@ ghost use Rattle.asn1show_walk.specs.Reading.{NoElements};
 ghost use Rattle.asn1show_walk.specs.WellFormed.{AreElements};
 
 use asn1_input::{Block, InputFormat, PemReader, cut_line, decode_hex, format_of, text_of};
+use asn1show_html::{HtmlPrinter, write_end, write_error, write_heading, write_start};
 use asn1show_json::JsonPrinter;
 use asn1show_printer::{
     Layout, LineBuffer, Names, Output, Printer, Source, Style, View, write_quoted,
@@ -56,6 +57,24 @@ fn show_json<W: Write + Drop>(
     listed
 }
 
+// Lists the elements of bytes in HTML. Those that are open are ended also if the bytes are malformed.
+fn show_html<W: Write + Drop>(
+    out: &mut Output<W>,
+    mode: BERMode,
+    style: Style<'_>,
+    bytes: &[u8],
+) -> Result<(), WalkError>
+    ensures raw { OnOk result (IsJoining (IsRaw mode max_depth) bytes.now) }
+    ensures some { OnOk result (1 ≤ length bytes.now) }
+    ensures elements { OnOk result (AreElements max_depth mode bytes.now) }
+    ensures fails { IfErr result (λ f. WalkFails IsExternal (NoElements max_depth mode bytes.now) f) }
+{
+    let mut page = HtmlPrinter::begin(out, style, Source { mode, bytes });
+    let listed = list_input(bytes, mode, &mut page);
+    page.finish(listed.is_ok())?;
+    listed
+}
+
 // Lists the elements of bytes.
 fn show_bytes<W: Write + Drop>(
     out: &mut Output<W>,
@@ -71,13 +90,25 @@ fn show_bytes<W: Write + Drop>(
     match style.view.layout {
         Layout::Lines => show_lines(out, mode, style, bytes),
         Layout::Json => show_json(out, mode, style, bytes),
+        Layout::Html => show_html(out, mode, style, bytes),
     }
 }
 
-// Begins an input with a heading, where elements are laid out in lines.
-fn begin<W: Write + Drop>(out: &mut Output<W>, style: Style<'_>, heading: LineBuffer) {
-    if matches!(style.view.layout, Layout::Lines) {
-        out.begin(heading);
+// Begins an input with a heading, where elements are laid out in lines or in HTML.
+fn begin<W: Write + Drop>(
+    out: &mut Output<W>,
+    style: Style<'_>,
+    heading: LineBuffer,
+) -> Result<(), WalkError>
+    ensures { IfErr result IsExternal }
+{
+    match style.view.layout {
+        Layout::Lines => {
+            out.begin(heading);
+            Ok(())
+        }
+        Layout::Html => write_heading(out, style.alloc, &heading),
+        Layout::Json => Ok(()),
     }
 }
 
@@ -96,7 +127,7 @@ fn show_counted<W: Write + Drop>(
 {
     let count = bytes.len();
     write!(line, "{count} bytes");
-    begin(out, style, line);
+    begin(out, style, line)?;
     show_bytes(out, mode, style, bytes)
 }
 
@@ -131,7 +162,7 @@ fn show_block<W: Write + Drop>(
             show_counted(out, mode, style, line, bytes.as_slice())
         }
         Err(error) => {
-            begin(out, style, line);
+            begin(out, style, line)?;
             Err(*error)
         }
     }
@@ -148,17 +179,21 @@ fn defect(error: &WalkError) -> &'static str {
     }
 }
 
-// Prints why a block isn't listed, or not to its end.
+// Prints why a block isn't listed, or not to its end, but in JSON and in a check.
 fn show_defect<W: Write + Drop>(
     out: &mut Output<W>,
-    alloc: Global,
+    style: Style<'_>,
     error: &WalkError,
 ) -> Result<(), WalkError>
     ensures { IfErr result IsExternal }
 {
-    let mut line = line_of(alloc, defect(error));
+    let mut line = line_of(style.alloc, defect(error));
     write!(line, "{error}");
-    out.write(&mut line)
+    match style.view.layout {
+        Layout::Lines if style.view.has_lines() => out.write(&mut line),
+        Layout::Html => write_error(out, style.alloc, &line),
+        Layout::Lines | Layout::Json => Ok(()),
+    }
 }
 
 // Lists the elements of a block, and prints after them why it is malformed, if it is.
@@ -173,8 +208,8 @@ fn show_whole_block<W: Write + Drop>(
 {
     let shown = show_block(out, mode, style, block);
     if let Err(error) = shown {
-        if !error.is_external() && style.view.has_lines() {
-            show_defect(out, style.alloc, &error)?;
+        if !error.is_external() {
+            show_defect(out, style, &error)?;
         }
     }
     shown
@@ -294,6 +329,61 @@ fn show_format<W: Write + Drop>(
     }
 }
 
+// Lists the elements of an input. If no format is given, it is detected.
+fn show_input<W: Write + Drop>(
+    out: &mut Output<W>,
+    mode: BERMode,
+    input_format: Option<InputFormat>,
+    style: Style<'_>,
+    input: &[u8],
+) -> Result<(), WalkError>
+    ensures raw { OnOk result (IsTakenAs input_format input.now Bytes → IsJoining (IsRaw mode max_depth) input.now) }
+    ensures decodes { (taken : InputFormat) → IsTakenAs input_format input.now taken → OnOk result (HoldsElements mode taken input.now) }
+    ensures fails { (taken : InputFormat) → IsTakenAs input_format input.now taken → IfErr result (λ f. WalkFails IsExternal (HoldsNone mode taken input.now) f) }
+{
+    match input_format {
+        Some(input_format) => show_format(out, mode, input_format, style, input),
+        None => show_format(out, mode, format_of(input), style, input),
+    }
+}
+
+// Writes the first error of an input, after all that was listed of it.
+fn show_error<W: Write + Drop>(
+    out: &mut Output<W>,
+    style: Style<'_>,
+    listed: Result<(), WalkError>,
+) -> Result<(), WalkError>
+    ensures { IfErr result IsExternal }
+{
+    match listed {
+        Err(error) if !error.is_external() => {
+            let mut line = line_of(style.alloc, "");
+            write!(line, "{error}");
+            write_error(out, style.alloc, &line)
+        }
+        Ok(()) | Err(_) => Ok(()),
+    }
+}
+
+// Lists the elements of an input in a page of HTML, which is ended also if the input is malformed.
+fn show_page<W: Write + Drop>(
+    out: &mut Output<W>,
+    mode: BERMode,
+    input_format: Option<InputFormat>,
+    style: Style<'_>,
+    input: &[u8],
+) -> Result<(), WalkError>
+    ensures raw { OnOk result (IsTakenAs input_format input.now Bytes → IsJoining (IsRaw mode max_depth) input.now) }
+    ensures decodes { (taken : InputFormat) → IsTakenAs input_format input.now taken → OnOk result (HoldsElements mode taken input.now) }
+    ensures fails { (taken : InputFormat) → IsTakenAs input_format input.now taken → IfErr result (λ f. WalkFails IsExternal (HoldsNone mode taken input.now) f) }
+{
+    write_start(out, style.alloc)?;
+    let listed = show_input(out, mode, input_format, style, input);
+    show_error(out, style, listed)?;
+    write_end(out, style.alloc)?;
+    listed
+}
+
 /// Lists the elements of an input in a mode, as a view of them says. If no format is given, it is detected.
 ///
 /// Returns Ok only if the input in this format is one or more elements that are well formed, in PEM each of one or more blocks. If an error
@@ -316,8 +406,8 @@ pub fn show<W: Write + Drop>(
         names: &names,
         view,
     };
-    match input_format {
-        Some(input_format) => show_format(out, mode, input_format, style, input),
-        None => show_format(out, mode, format_of(input), style, input),
+    match view.layout {
+        Layout::Html => show_page(out, mode, input_format, style, input),
+        Layout::Lines | Layout::Json => show_input(out, mode, input_format, style, input),
     }
 }

@@ -25,7 +25,8 @@ fn name_of(tag: Tag) -> Option<&'static str> {
     }
 }
 
-fn write_tag(line: &mut LineBuffer, tag: Tag) {
+/// Writes the name of the type with a tag, or the tag in brackets.
+pub fn write_tag(line: &mut LineBuffer, tag: Tag) {
     if let Some(name) = name_of(tag) {
         return line.write_str(name);
     }

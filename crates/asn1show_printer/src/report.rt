@@ -123,6 +123,11 @@ impl<'n> Report<'n> {
         }
     }
 
+    /// The encoding rules that the elements conform to.
+    pub fn modes(&self) -> &'static str {
+        self.conformance.modes()
+    }
+
     // Prints the encoding rules that the elements conform to.
     pub(crate) fn print_conformance(&mut self) {
         self.line.write_str("rules: ");

@@ -58,6 +58,8 @@ pub enum Layout {
     Lines,
     /// An array of JSON (RFC 8259).
     Json,
+    /// A page of HTML.
+    Html,
 }
 
 /// What is shown of elements, and how.
@@ -78,7 +80,7 @@ pub struct View<'n> {
 }
 
 impl<'n> View<'n> {
-    /// Whether lines are written, and not only bytes or JSON.
+    /// Whether lines are written, and not only bytes, JSON or HTML.
     pub fn has_lines(self) -> bool {
         matches!(self.layout, Layout::Lines) && self.selection.has_lines()
     }

@@ -24,6 +24,7 @@
 //! | `records`, `scrypt`, `third_party` | types of one's own |
 //! | `shown` | the lines of malformed and unusual elements |
 //! | `shown_fields` | elements with the names of a module |
+//! | `shown_html` | the HTML of elements |
 //! | `shown_json` | the JSON of elements |
 //! | `times` | both times |
 //! | `tree` | a type that refers to itself, and elements at 101 levels |
@@ -74,6 +75,8 @@ mod scrypt;
 mod shown;
 #[cfg(test)]
 mod shown_fields;
+#[cfg(test)]
+mod shown_html;
 #[cfg(test)]
 mod shown_json;
 #[cfg(test)]

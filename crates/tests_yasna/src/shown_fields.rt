@@ -1,8 +1,9 @@
-//! Lines and JSON with the names of a module, as `asn1show_modules` makes its tables.
+//! Lines, JSON and HTML with the names of a module, as `asn1show_modules` makes its tables.
 
 use crate::checks::finds_none;
 use crate::lines::Expectation::Listed;
 use crate::lines::{ALL, Row, is_viewed};
+use crate::shown_html::is_body;
 use asn1show_lines::{Layout, Schema, View};
 use asn1show_schema::schema::{Beginning, Contents, Name, Parts, Place};
 use std::alloc::{AllocError, Global};
@@ -42,6 +43,15 @@ static NAMED_IN_JSON: Row = (
         "",
     ),
 );
+
+// The page of these elements.
+const NAMED_IN_HTML: &str = "<h2>input: hexadecimal, 9 bytes</h2>
+<details open class=\"constructed\"><summary><i>0</i> <i>2+7</i> <b>SEQUENCE</b> <code>3007</code></summary>
+<details open class=\"primitive\"><summary><i>2</i> <i>2+1</i> <u>a</u> <b>INTEGER</b> <span>5</span> <code>020105</code></summary>
+</details><details open class=\"primitive\"><summary><i>5</i> <i>2+0</i> <u>b</u> <u>c</u> <b>NULL</b> <code>0500</code></summary>
+</details><details open class=\"primitive\"><summary><i>7</i> <i>2+0</i> <b>NULL</b> <em>not in the module</em> <code>0500</code></summary>
+</details></details><p>rules: BER, DER</p>
+";
 
 // A name of one letter in the text of names.
 fn letter(start: usize) -> Name {
@@ -95,7 +105,7 @@ fn schema(alloc: Global) -> Result<Schema, AllocError> {
     })
 }
 
-// The row whose lines or JSON haven't the names.
+// The layout that hasn't the names.
 fn first_unnamed(alloc: Global) -> Option<&'static str> {
     let Ok(schema) = schema(alloc) else {
         return Some("the tables");
@@ -113,6 +123,13 @@ fn first_unnamed(alloc: Global) -> Option<&'static str> {
     }
     if !matches!(is_viewed(alloc, &NAMED_IN_JSON, json, true), Ok(true)) {
         return Some("JSON");
+    }
+    let html = View {
+        layout: Layout::Html,
+        ..lines
+    };
+    if !is_body(alloc, NAMED.0, html, NAMED_IN_HTML) {
+        return Some("HTML");
     }
     None
 }
