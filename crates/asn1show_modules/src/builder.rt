@@ -1,4 +1,5 @@
 //! Tables that are being filled.
+ghost use Rattle.std.specs.Prelude.{◌≡◌, IfOk, length};
 
 use asn1show_schema::Schema;
 use asn1show_schema::schema::{Beginning, Contents, Name, Place};
@@ -54,7 +55,9 @@ impl Builder {
     }
 
     /// How many places there are.
-    pub fn count_places(&self) -> usize {
+    pub fn count_places(&self) -> usize
+        ensures { result ≡ length self.now.places.items }
+    {
         self.places.len()
     }
 
@@ -69,7 +72,9 @@ impl Builder {
         name: Name,
         may_be_absent: bool,
         rows: Rows,
-    ) -> Result<usize, AllocError> {
+    ) -> Result<usize, AllocError>
+        ensures { IfOk result (λ number. number ≡ length self.old.places.items) }
+    {
         let number = self.places.len();
         let place = Place {
             name,
@@ -160,7 +165,11 @@ impl Builder {
     }
 
     /// The tables, for the values of a place.
-    pub fn finish(self, start: usize) -> Schema {
+    pub fn finish(self, start: usize) -> Schema
+        ensures start { result.start ≡ start }
+        ensures places { result.places ≡ self.places }
+        ensures beginnings { result.beginnings ≡ self.beginnings }
+    {
         Schema {
             text: self.text,
             places: self.places,

@@ -1,17 +1,24 @@
 //! The tags of types that have one by themselves (X.680, 8.4).
+ghost use Rattle.std.specs.Prelude.{◌≡◌};
+ghost use Rattle.yasna_base.specs.Identifier.{universal};
+ghost use Rattle.asn1show_modules.specs.Tags.{element_class, element_tag};
 
 use asn1_types::model::{Notation, TagClass as Class, TagLayer, TextKind};
 use yasna_base::tag::{Tag, TagClass};
 
 /// A tag of the class UNIVERSAL.
-pub fn universal(tag_number: u64) -> Tag {
+pub fn universal(tag_number: u64) -> Tag
+    ensures { result ≡ universal tag_number }
+{
     Tag {
         tag_class: TagClass::Universal,
         tag_number,
     }
 }
 
-fn class_of(class: Class) -> TagClass {
+fn class_of(class: Class) -> TagClass
+    ensures { result ≡ element_class «class» }
+{
     match class {
         Class::Universal => TagClass::Universal,
         Class::Application => TagClass::Application,
@@ -21,7 +28,9 @@ fn class_of(class: Class) -> TagClass {
 }
 
 /// The tag of a layer.
-pub fn layer_tag(layer: TagLayer) -> Tag {
+pub fn layer_tag(layer: TagLayer) -> Tag
+    ensures { result ≡ element_tag layer }
+{
     Tag {
         tag_class: class_of(layer.class),
         tag_number: layer.number,

@@ -1,4 +1,5 @@
 //! The files of the modules, and what is wrong in them.
+ghost use Rattle.std.specs.Prelude.{◌≡◌, ◌↔◌, []};
 
 use crate::location::report_at;
 use asn1_syntax::tree::Module;
@@ -113,7 +114,9 @@ pub fn report_problems(
     files: &[ModuleFile<'_>],
     modules: &Modules<'_>,
     problems: &[Problem],
-) -> u8 {
+) -> u8
+    ensures { (result ≡ 0) ↔ (problems.now ≡ []) }
+{
     for problem in problems {
         let place = problem.place;
         report_place(

@@ -1,5 +1,8 @@
 //! Where something is in a source: its line, and its column.
+ghost use Rattle.std.specs.Prelude.{◌≡◌, ◌+◌, count_by, take};
+ghost use Rattle.asn1_syntax.specs.Places.{column_after, is_line_end};
 
+use asn1_syntax::place_at;
 use program_io::report;
 use std::str;
 
@@ -12,22 +15,6 @@ pub struct Location<'s> {
     pub column: usize,
     /// The line.
     pub text: &'s [u8],
-}
-
-// Where the line of an offset begins, and its number.
-fn line_start(source: &[u8], offset: usize) -> (usize, usize) {
-    let mut start = 0usize;
-    let mut line = 1usize;
-    for (place, octet) in source.iter().enumerate() {
-        if place >= offset {
-            break;
-        }
-        if *octet == b'\n' {
-            start = place.saturating_add(1);
-            line = line.saturating_add(1);
-        }
-    }
-    (start, line)
 }
 
 // The text up to the end of the line.
@@ -43,16 +30,22 @@ fn line_text(rest: &[u8]) -> &[u8] {
     rest
 }
 
-/// The place of an offset.
-pub fn locate(source: &[u8], offset: usize) -> Location<'_> {
-    let (start, line) = line_start(source, offset);
+/// The place of an offset. An offset past the source's end is at its end.
+pub fn locate(source: &[u8], offset: usize) -> Location<'_>
+    ensures line { result.line ≡ count_by is_line_end (take offset source.now) + 1 }
+    ensures column { result.column ≡ column_after 1 (take offset source.now) }
+{
+    let place = place_at(source, offset);
+    let start = offset
+        .min(source.len())
+        .saturating_sub(place.column.saturating_sub(1));
     let rest = match source.get(start..) {
         Some(rest) => rest,
         None => b"",
     };
     Location {
-        line,
-        column: offset.saturating_sub(start).saturating_add(1),
+        line: place.line,
+        column: place.column,
         text: line_text(rest),
     }
 }
