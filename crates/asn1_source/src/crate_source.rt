@@ -2,9 +2,11 @@
 
 use crate::canonical::is_body_canonical;
 use crate::constants::add_constants;
+use crate::exports::exports_of;
 use crate::head::put_path;
 use crate::imports::Words;
 use crate::naming::UsedNames;
+use crate::open_choices::open_choices;
 use crate::order::Order;
 use crate::terms::{TypeName, TypeNames};
 use crate::text::Text;
@@ -24,9 +26,14 @@ pub fn names_of(
         order: Vec::new(alloc),
         imported,
     };
-    for definition in definitions {
+    let open = open_choices(alloc, definitions)?;
+    for (place, definition) in definitions.iter().enumerate() {
         let mut name = used.name(definition)?;
-        name.is_canonical = is_body_canonical(&definition.body, &names);
+        name.is_open = match open.get(place) {
+            Some(is_open) => *is_open,
+            None => false,
+        };
+        name.is_canonical = is_body_canonical(&definition.body, name.is_open, &names);
         if names.defined.push(name).is_err() {
             return Err(AllocError);
         }
@@ -248,6 +255,10 @@ pub fn sources_of(
     files.add("src/", b"lib", ".rt", root)?;
     if let Some(specs) = specs_of(alloc, source) {
         files.add("specs/", b"Lib", ".antt", specs)?;
+    }
+    let exports = exports_of(alloc, source);
+    if !exports.as_slice().is_empty() {
+        files.add("", b"exports", "", exports)?;
     }
     let Files { files, .. } = files;
     Ok(files)

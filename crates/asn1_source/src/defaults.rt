@@ -1,10 +1,18 @@
 //! The defaults of parts.
+//!
+//! | Mark | Represents |
+//! |---|---|
+//! | `#` | the number as Rust writes it |
+//! | `^` | the number in clauses |
+//! | `$` | what the names of the specs of an ENUMERATED begin with |
+//! | `&` | the type of the default of an ENUMERATED |
 
 use crate::forms::BOOLEAN;
 use crate::shapes::{Shape, integer_shape};
 use asn1_types::model::{DefaultValue, Integer, Notation};
 
-/// How a default is written: its type, and in clauses the test for it, its value, and the term that the test detects it.
+/// How a default is written: its type, and in clauses the test for it, its value, and the terms that the test detects it and that equal values are the
+/// same.
 pub struct DefaultTexts {
     /// The type.
     pub name: &'static str,
@@ -14,6 +22,8 @@ pub struct DefaultTexts {
     pub value: &'static str,
     /// The term.
     pub detects: &'static str,
+    /// The term of equality. `@L` is that of the law.
+    pub same: &'static str,
 }
 
 static TRUE: DefaultTexts = DefaultTexts {
@@ -21,6 +31,7 @@ static TRUE: DefaultTexts = DefaultTexts {
     test: "(λ v. v)",
     value: "true",
     detects: "detects_true",
+    same: "equal_same",
 };
 
 static FALSE: DefaultTexts = DefaultTexts {
@@ -28,6 +39,7 @@ static FALSE: DefaultTexts = DefaultTexts {
     test: "not",
     value: "false",
     detects: "detects_false",
+    same: "equal_same",
 };
 
 static UNSET: DefaultTexts = DefaultTexts {
@@ -35,6 +47,7 @@ static UNSET: DefaultTexts = DefaultTexts {
     test: "not",
     value: "false",
     detects: "detects_false",
+    same: "equal_same",
 };
 
 static NATURAL: DefaultTexts = DefaultTexts {
@@ -42,6 +55,7 @@ static NATURAL: DefaultTexts = DefaultTexts {
     test: "(λ v. nat_eq v #)",
     value: "#",
     detects: "(detects_number #)",
+    same: "equal_same",
 };
 
 static SIGNED: DefaultTexts = DefaultTexts {
@@ -49,10 +63,19 @@ static SIGNED: DefaultTexts = DefaultTexts {
     test: "(λ v. int_eq v ^)",
     value: "^",
     detects: "(detects_integer ^)",
+    same: "equal_same",
 };
 
-// The notation at the bottom of tags.
-fn untagged(notation: &Notation) -> &Notation {
+static ITEM: DefaultTexts = DefaultTexts {
+    name: "&",
+    test: "(λ v. int_eq ($_number v) ^)",
+    value: "&Value",
+    detects: "($_detects &Value)",
+    same: "@L.own.coding.meaning.equal",
+};
+
+/// The notation at the bottom of tags.
+pub fn untagged(notation: &Notation) -> &Notation {
     let mut current = notation;
     while let Notation::Tagged(_, inner) = current {
         current = &**inner;
@@ -83,7 +106,8 @@ pub fn default_texts(notation: &Notation, value: &DefaultValue<'_>) -> &'static 
         DefaultValue::Boolean(false) if is_plain_boolean(notation) => &FALSE,
         DefaultValue::Boolean(false) => &UNSET,
         DefaultValue::Integer(_) if is_natural(notation) => &NATURAL,
-        DefaultValue::Integer(_) | DefaultValue::Enumerated(_, _) => &SIGNED,
+        DefaultValue::Integer(_) => &SIGNED,
+        DefaultValue::Enumerated(_, _) => &ITEM,
     }
 }
 

@@ -1,9 +1,10 @@
 //! The head of a source: the notation of the type, as the module has it.
 
+use crate::extension::tail_of;
 use crate::text::Text;
 use asn1_syntax::tree::{Assignment, Module};
 use asn1_syntax::{Token, lex};
-use asn1_types::model::{Body, Definition, Loosening, Looser};
+use asn1_types::model::{Body, Components, Definition, Loosening, Looser, Presence};
 use std::alloc::Global;
 
 /// A module: its source, and its tree.
@@ -33,10 +34,13 @@ fn start_of(module: ModuleSource<'_>, assignment: usize) -> usize {
     }
 }
 
-// The offset where the last lexical item before an offset ends, but for a last END.
-fn end_before(tokens: &[Token<'_>], limit: usize) -> usize {
-    let mut end = 0usize;
+// The offset where the last lexical item between two offsets ends, but for a last END.
+fn end_between(tokens: &[Token<'_>], start: usize, limit: usize) -> usize {
+    let mut end = start;
     for token in tokens {
+        if token.offset < start {
+            continue;
+        }
         if token.offset >= limit || token.text == b"END".as_slice() {
             break;
         }
@@ -52,7 +56,7 @@ fn assignment_text<'a>(alloc: Global, module: ModuleSource<'a>, assignment: usiz
     let Ok(tokens) = lex(alloc, module.source) else {
         return b"";
     };
-    let end = end_before(tokens.as_slice(), limit);
+    let end = end_between(tokens.as_slice(), start, limit);
     match module.source.get(start..end) {
         Some(text) => text,
         None => b"",
@@ -101,15 +105,35 @@ fn put_looser(looser: &[Looser], out: &mut Text) {
     }
 }
 
+// Whether earlier versions leave out parts that are mandatory in this one.
+fn has_addition(components: &Components<'_>) -> bool {
+    for part in components.parts.iter() {
+        if part.is_addition && matches!(&part.presence, Presence::Required) {
+            return true;
+        }
+    }
+    false
+}
+
+// What a SEQUENCE leaves out, and what it adds.
+fn sequence_text(components: &Components<'_>) -> &'static str {
+    let is_closed = components.extension.is_some() && tail_of(components).is_none();
+    match (is_closed, has_addition(components)) {
+        (true, true) =>
+            "//!\n//! An element that a later version may add is rejected. A part after `...` may be absent, as in an earlier version.\n",
+        (true, false) => "//!\n//! An element that a later version may add is rejected.\n",
+        (false, true) => "//!\n//! A part after `...` may be absent, as in an earlier version.\n",
+        (false, false) => "",
+    }
+}
+
 // What a type has that its source leaves out.
-fn missing_text(body: &Body<'_>) -> &'static str {
+fn missing_text(body: &Body<'_>, is_open: bool) -> &'static str {
     match body {
         Body::Set(_) =>
             "//!\n//! The components of this SET aren't read: its elements are as they came.\n",
-        Body::Sequence(components) if components.extension.is_some() => {
-            "//!\n//! An element that a later version may add is rejected.\n"
-        }
-        Body::Choice(choice) if choice.is_extensible => {
+        Body::Sequence(components) => sequence_text(components),
+        Body::Choice(choice) if choice.is_extensible && !is_open => {
             "//!\n//! An alternative that a later version may add is rejected.\n"
         }
         _ => "",
@@ -128,11 +152,12 @@ pub fn put_path(path: &[&[u8]], out: &mut Text) {
     }
 }
 
-/// Appends the head of the source of a type.
+/// Appends the head of the source of a type. `is_open`: an alternative that this version doesn't know is a value.
 pub fn put_head(
     alloc: Global,
     modules: &[ModuleSource<'_>],
     definition: &Definition<'_>,
+    is_open: bool,
     out: &mut Text,
 ) {
     out.say("//! `");
@@ -148,6 +173,6 @@ pub fn put_head(
     out.say(".\n//!\n//! ```text\n");
     put_lines(assignment_text(alloc, *module, definition.assignment), out);
     out.say("//! ```\n");
-    out.say(missing_text(&definition.body));
+    out.say(missing_text(&definition.body, is_open));
     put_looser(definition.looser.as_slice(), out);
 }

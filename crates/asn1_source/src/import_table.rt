@@ -16,8 +16,8 @@ Rattle.yasna_bytes.specs.Contents: big_integer_in
 Rattle.yasna_bytes.specs.Segments: bits_in
 Rattle.yasna_notation.specs.Bounded: passes_alike within_lawful
 Rattle.yasna_notation.specs.Canonical: bounded_written choice_written_as last_part_writes represented_written
-Rattle.yasna_notation.specs.Laws: element_non_empty represented_lawful
-Rattle.yasna_notation.specs.Making: alternative alternative_non_empty at_most default_part exactly from_to in_application in_bound in_choice
+Rattle.yasna_notation.specs.Laws: element_non_empty raw_non_empty represented_lawful
+Rattle.yasna_notation.specs.Making: alternative at_most default_part exactly from_to in_application in_bound in_choice
 Rattle.yasna_notation.specs.Making: in_explicit in_implicit in_sequence in_sequence_of in_set_of list_sized not_empty octets_sized
 Rattle.yasna_notation.specs.Making: application context optional_part part set_not_empty set_sized tag_or
 Rattle.yasna_base.specs.Identifier: universal
@@ -34,6 +34,10 @@ Rattle.yasna_notation_constraints.specs.Sizes: bit_sizes from_on
 Rattle.yasna_notation_tags.specs.Making: explicit_application explicit_application_written explicit_private explicit_private_written
 Rattle.yasna_notation_tags.specs.Making: in_private in_universal under_private under_universal
 Rattle.yasna_notation_types.specs.Named: named_lawful named_written
+Rattle.yasna_notation_types.specs.OpenChoice: any_lawful open_lawful
+Rattle.yasna_notation_types.specs.Others: other_may others_laws others_within possible possible_default possible_default_begins possible_may
+Rattle.yasna_notation_types.specs.Others: possible_within
+Rattle.yasna_notation_types.specs.Rest: rest_laws
 Rattle.yasna_notation.specs.contracts.simple.BoolNotation.TheImpl.Laws: lawful-law=flag_law non_empty-law=flag_non_empty
 Rattle.yasna_notation.specs.contracts.canonical.BoolCanonicalNotation.TheImpl.Laws: written-law=flag_written
 Rattle.yasna_notation.specs.contracts.simple.UnitNotation.TheImpl.Laws: lawful-law=null_law non_empty-law=null_non_empty
@@ -82,12 +86,12 @@ pub static CODE_IMPORTS: &str = "\
 yasna::models: GeneralizedTime ObjectIdentifier TaggedDerValue UTCTime
 yasna: ASN1Result BERMode BERReader BERReaderSeq DERWriter DERWriterSeq PrependBuffer Tag
 yasna_notation::Either: First Second
-yasna_notation: Alternatives Application AtMost BigInteger BitString Bounded CanonicalNotation CanonicalParts Choice Context Default Either
+yasna_notation: Alternatives Application AtMost BigInteger BitString Bounded CanonicalAlternatives CanonicalNotation CanonicalParts Choice Context Default DefaultValue Either
 yasna_notation: Enumerated Exactly Explicit False FromTo Ia5String Implicit Last Message NotEmpty Notation NumericString Optional
 yasna_notation: PartsBy>Parts PartsBy PrintableString Represents Sequence SequenceOf SetOf VisibleString read_as
 yasna_notation_constraints: IntegerFrom IntegerFromTo IntegerUpTo Natural Signed SizeFrom SizeFromTo SizeIs True Unset
 yasna_notation_tags: BmpString Private Universal explicit_fields_len implicit_fields_len prepend_explicit_fields prepend_implicit_fields
 yasna_notation_tags: write_explicit_fields write_implicit_fields
-yasna_notation_types: Named NamedBits Numbered
+yasna_notation_types: Named NamedBits Numbered OpenChoice Others Possible PossibleDefault Rest
 yasna_notation_validity: Checked CheckedBy accepts_fields
 ";

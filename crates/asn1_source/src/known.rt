@@ -1,143 +1,55 @@
-//! The types of crates of this repository that modules may import.
+//! The types of other crates that modules import.
 
+use crate::exports::Export;
 use crate::terms::TypeName;
-use asn1_types::model::{KnownType, Tag, TagClass};
+use asn1_types::model::KnownType;
 use std::alloc::{AllocError, Global};
 
-// A type of a crate.
-struct Known {
-    name: &'static str,
-    origin: &'static str,
-    file: &'static str,
-    rust: &'static str,
-    // Whether it is a CHOICE.
-    is_choice: bool,
-}
-
-static KNOWN: [Known; 9] = [
-    Known {
-        name: "AlgorithmIdentifier",
-        origin: "x509",
-        file: "algorithm",
-        rust: "AlgorithmIdentifier",
-        is_choice: false,
-    },
-    Known {
-        name: "Attribute",
-        origin: "x509",
-        file: "attribute",
-        rust: "Attribute",
-        is_choice: false,
-    },
-    Known {
-        name: "AttributeTypeAndValue",
-        origin: "x509",
-        file: "attribute_type_and_value",
-        rust: "AttributeTypeAndValue",
-        is_choice: false,
-    },
-    Known {
-        name: "Certificate",
-        origin: "x509",
-        file: "certificate",
-        rust: "Certificate",
-        is_choice: false,
-    },
-    Known {
-        name: "CertificateList",
-        origin: "x509",
-        file: "certificate_list",
-        rust: "CertificateList",
-        is_choice: false,
-    },
-    Known {
-        name: "Extensions",
-        origin: "x509",
-        file: "extensions",
-        rust: "Extensions",
-        is_choice: false,
-    },
-    Known {
-        name: "Name",
-        origin: "x509",
-        file: "name",
-        rust: "Name",
-        is_choice: true,
-    },
-    Known {
-        name: "SubjectPublicKeyInfo",
-        origin: "x509",
-        file: "public_key",
-        rust: "SubjectPublicKeyInfo",
-        is_choice: false,
-    },
-    Known {
-        name: "Validity",
-        origin: "x509",
-        file: "validity",
-        rust: "Validity",
-        is_choice: false,
-    },
-];
-
-// The tag of all of them: `Name` is a CHOICE of one SEQUENCE OF.
-static SEQUENCE_TAGS: [Tag; 1] = [Tag {
-    class: TagClass::Universal,
-    number: 16,
-}];
-
-/// The known types of these crates, as a resolver takes them.
-pub fn known_types(alloc: Global, crates: &[&str]) -> Result<Vec<KnownType<'static>>, AllocError> {
+/// The types of other crates, as a resolver takes them.
+pub fn known_types<'a>(
+    alloc: Global,
+    exports: &'a [Export<'a>],
+) -> Result<Vec<KnownType<'a>>, AllocError> {
     let mut types = Vec::new(alloc);
-    for known in KNOWN.as_slice() {
-        let known_type = KnownType {
-            module: b"PKIX1Explicit88",
-            name: known.name.as_bytes(),
-            tags: SEQUENCE_TAGS.as_slice(),
-            is_untagged: known.is_choice,
+    for export in exports {
+        let known = KnownType {
+            module: export.module,
+            name: export.name,
+            tags: export.tags.as_slice(),
+            is_untagged: export.is_untagged,
         };
-        if is_among(crates, known.origin) && types.push(known_type).is_err() {
+        if types.push(known).is_err() {
             return Err(AllocError);
         }
     }
     Ok(types)
 }
 
-fn is_among(crates: &[&str], name: &str) -> bool {
-    for one in crates {
-        if *one == name {
-            return true;
-        }
-    }
-    false
-}
-
-// The names of a known type in sources.
-fn name_of(alloc: Global, known: &Known) -> Result<TypeName, AllocError> {
-    let name = Vec::from_slice(alloc, known.rust.as_bytes())?;
-    let file = Vec::from_slice(alloc, known.file.as_bytes())?;
-    let origin = Vec::from_slice(alloc, known.origin.as_bytes())?;
-    let mut law = Vec::from_slice(alloc, known.origin.as_bytes())?;
+// The names of a type in sources.
+fn name_of(alloc: Global, export: &Export<'_>) -> Result<TypeName, AllocError> {
+    let name = Vec::from_slice(alloc, export.rust)?;
+    let file = Vec::from_slice(alloc, export.file)?;
+    let origin = Vec::from_slice(alloc, export.origin.as_bytes())?;
+    let mut law = Vec::from_slice(alloc, export.origin.as_bytes())?;
     law.extend_from_slice(b"_".as_slice())?;
-    law.extend_from_slice(known.file.as_bytes())?;
+    law.extend_from_slice(export.file)?;
     Ok(TypeName {
         name,
         file,
         origin: Some(origin),
         law,
-        is_enumeration: false,
-        is_canonical: false,
+        is_enumeration: export.is_enumeration,
+        tags: Vec::new(alloc),
+        is_canonical: export.is_canonical,
+        is_open: export.is_open,
     })
 }
 
-/// The names of the known types of these crates, in the same order.
-pub fn known_names(alloc: Global, crates: &[&str]) -> Result<Vec<TypeName>, AllocError> {
+/// The names of the types of other crates, in the same order.
+pub fn known_names(alloc: Global, exports: &[Export<'_>]) -> Result<Vec<TypeName>, AllocError> {
     let mut names = Vec::new(alloc);
-    for known in KNOWN.as_slice() {
-        if !is_among(crates, known.origin) {
-            continue;
-        }
-        let name = name_of(alloc, known)?;
+    for export in exports {
+        let name = name_of(alloc, export)?;
         if names.push(name).is_err() {
             return Err(AllocError);
         }

@@ -131,13 +131,16 @@ impl UsedNames {
         let name = self.take_type(definition.path.as_slice())?;
         let file = self.take_file(definition.path.as_slice())?;
         let law = Vec::from_slice(self.alloc, file.as_slice())?;
+        let tags = Vec::from_slice(self.alloc, definition.tags.as_slice())?;
         Ok(TypeName {
             name,
             file,
             origin: None,
             law,
             is_enumeration: is_enumeration(&definition.body),
+            tags,
             is_canonical: false,
+            is_open: false,
         })
     }
 }
@@ -167,13 +170,15 @@ fn field_text(alloc: Global, name: &[u8]) -> Text {
     other
 }
 
-/// The names of the fields of parts.
+/// The names of the fields of parts, and `unknown` after them.
 pub fn field_names(alloc: Global, parts: &[Part<'_>]) -> Result<Vec<Vec<u8>>, AllocError> {
     let mut names = Vec::new(alloc);
     for part in parts {
         let text = distinct(names.as_slice(), field_text(alloc, part.name));
         keep(&mut names, alloc, text)?;
     }
+    let text = distinct(names.as_slice(), field_text(alloc, b"unknown"));
+    keep(&mut names, alloc, text)?;
     Ok(names)
 }
 
@@ -187,14 +192,19 @@ fn variant_text(alloc: Global, name: &[u8]) -> Text {
     text
 }
 
-/// The names of the variants of alternatives.
+/// The names of the variants of alternatives, and `Unknown` of an open CHOICE.
 pub fn variant_names(
     alloc: Global,
     alternatives: &[Alternative<'_>],
+    is_open: bool,
 ) -> Result<Vec<Vec<u8>>, AllocError> {
     let mut names = Vec::new(alloc);
     for alternative in alternatives {
         let text = distinct(names.as_slice(), variant_text(alloc, alternative.name));
+        keep(&mut names, alloc, text)?;
+    }
+    if is_open {
+        let text = distinct(names.as_slice(), variant_text(alloc, b"unknown"));
         keep(&mut names, alloc, text)?;
     }
     Ok(names)

@@ -5,13 +5,17 @@
 //! | `@N`, `@V` | the notation of a part, and the type of its values |
 //! | `@L`, `@W` | the terms of its law and of its law of writing |
 //! | `@f` | the name of its field |
+//! | `@u` | the name of the field of the elements that this version doesn't know |
 //! | `@D` | the type of its default |
 //! | `@I`, `@E`, `@T` | the test for the default, the default, and the term that the test detects it, in clauses |
+//! | `@S` | the term that values that equal the default are detected alike |
 
-use crate::defaults::{default_shape, default_texts};
+use crate::defaults::{default_shape, default_texts, untagged};
+use crate::extension::put_tail_law;
 use crate::terms::{Aspect, TypeNames, put_notation, put_shaped};
 use crate::text::Text;
-use asn1_types::model::{Notation, Part, Presence};
+use crate::words::put_camel;
+use asn1_types::model::{DefaultValue, Notation, Part, Presence};
 
 /// How parts are listed in some place.
 pub struct Listing {
@@ -27,6 +31,14 @@ pub struct Listing {
     pub end: &'static str,
     /// What closes each part that was opened.
     pub close: &'static str,
+    /// A part that is OPTIONAL, at the end of an extensible SEQUENCE.
+    pub possible: &'static str,
+    /// One with a DEFAULT there.
+    pub possible_default: &'static str,
+    /// What closes each of these.
+    pub possible_close: &'static str,
+    /// The elements that this version doesn't know, after mandatory parts, and after others.
+    pub rest: [&'static str; 2],
 }
 
 /// The notations.
@@ -37,6 +49,10 @@ pub static NOTATIONS: Listing = Listing {
     last: "Last<@N>",
     end: "()",
     close: ")",
+    possible: "Possible<@N, ",
+    possible_default: "PossibleDefault<@N, @D, ",
+    possible_close: ">",
+    rest: ["Rest<TaggedDerValue>", "Others<Omitted>"],
 };
 
 /// The types of the values.
@@ -47,6 +63,10 @@ pub static VALUES: Listing = Listing {
     last: "Option<@V>",
     end: "()",
     close: ")",
+    possible: "(Option<@V>, ",
+    possible_default: "(@V, ",
+    possible_close: ")",
+    rest: ["Vec<TaggedDerValue>", "Vec<TaggedDerValue>"],
 };
 
 /// The fields of a struct.
@@ -57,6 +77,13 @@ pub static FIELDS: Listing = Listing {
     last: "    pub @f: Option<@V>,\n",
     end: "",
     close: "",
+    possible: "    pub @f: Option<@V>,\n",
+    possible_default: "    pub @f: @V,\n",
+    possible_close: "",
+    rest: [
+        "    /// Elements that this version doesn't know, as they came.\n    pub @u: Vec<TaggedDerValue>,\n",
+        "    /// Elements that this version doesn't know, as they came.\n    pub @u: Vec<TaggedDerValue>,\n",
+    ],
 };
 
 /// The values of a struct's fields in a clause.
@@ -67,6 +94,10 @@ pub static VALUE_OF: Listing = Listing {
     last: "v.@f",
     end: "tt",
     close: ")",
+    possible: "(v.@f, ",
+    possible_default: "(v.@f, ",
+    possible_close: ")",
+    rest: ["v.@u", "v.@u"],
 };
 
 /// The values of the fields that a reference leads to in a clause.
@@ -77,6 +108,10 @@ pub static HELD: Listing = Listing {
     last: "r.now.@f",
     end: "tt",
     close: ")",
+    possible: "(r.now.@f, ",
+    possible_default: "(r.now.@f, ",
+    possible_close: ")",
+    rest: ["r.now.@u", "r.now.@u"],
 };
 
 /// A pattern of the values.
@@ -87,6 +122,10 @@ pub static PATTERN: Listing = Listing {
     last: "@f",
     end: "()",
     close: ")",
+    possible: "(@f, ",
+    possible_default: "(@f, ",
+    possible_close: ")",
+    rest: ["@u", "@u"],
 };
 
 /// The names of the fields.
@@ -97,6 +136,10 @@ pub static NAMES: Listing = Listing {
     last: "@f, ",
     end: "",
     close: "",
+    possible: "@f, ",
+    possible_default: "@f, ",
+    possible_close: "",
+    rest: ["@u, ", "@u, "],
 };
 
 /// References to the fields.
@@ -107,6 +150,10 @@ pub static REFERENCES: Listing = Listing {
     last: "&value.@f",
     end: "()",
     close: ")",
+    possible: "(&value.@f, ",
+    possible_default: "(&value.@f, ",
+    possible_close: ")",
+    rest: ["&value.@u", "&value.@u"],
 };
 
 /// The term of the law.
@@ -117,23 +164,37 @@ pub static LAW: Listing = Listing {
     last: "(last_part_laws @L.own)",
     end: "no_parts",
     close: ")",
+    possible: "",
+    possible_default: "",
+    possible_close: "",
+    rest: ["", ""],
 };
 
 /// The term of the law of writing.
 pub static WRITTEN: Listing = Listing {
     required: "(part_written @W.own ",
     optional: "(optional_written @W.own ",
-    default: "(part_written (default_written @I (default_alike @I @E @T equal_same) @W.own) ",
+    default: "(part_written (default_written @I (default_alike @I @E @T @S) @W.own) ",
     last: "(last_part_writes @W.own)",
     end: "no_part_written",
     close: ")",
+    possible: "",
+    possible_default: "",
+    possible_close: "",
+    rest: ["", ""],
 };
 
 /// Whether a part is any element, and OPTIONAL.
 pub fn is_last(part: &Part<'_>) -> bool {
-    match (&part.notation, &part.presence) {
-        (Notation::Any, Presence::Optional) => true,
-        _ => false,
+    matches!(&part.notation, Notation::Any) && is_optional(part)
+}
+
+// Whether a part may be absent, and has no default. An addition may be, as earlier versions leave it out.
+fn is_optional(part: &Part<'_>) -> bool {
+    match &part.presence {
+        Presence::Required => part.is_addition,
+        Presence::Optional => true,
+        Presence::Default(_) => false,
     }
 }
 
@@ -146,6 +207,79 @@ pub struct Field<'p, 'a> {
     pub name: &'p [u8],
 }
 
+/// Parts of a SEQUENCE, and the names of their fields.
+#[derive(Clone, Copy)]
+pub struct Fields<'p, 'a> {
+    /// The parts.
+    pub parts: &'p [Part<'a>],
+    /// The names of their fields, and after them that of the field of the elements that this version doesn't know.
+    pub names: &'p [Vec<u8>],
+    /// The place of the first part after the mandatory ones, if elements that this version doesn't know are after all parts.
+    pub tail: Option<usize>,
+    /// Whether a tag is around them in their file.
+    pub is_tagged: bool,
+}
+
+/// These parts.
+pub fn fields_of<'p, 'a>(
+    parts: &'p [Part<'a>],
+    names: &'p [Vec<u8>],
+    tail: Option<usize>,
+    is_tagged: bool,
+) -> Fields<'p, 'a> {
+    Fields {
+        parts,
+        names,
+        tail,
+        is_tagged,
+    }
+}
+
+impl<'p, 'a> Fields<'p, 'a> {
+    /// The part at a place.
+    pub fn at(&self, place: usize) -> Option<Field<'p, 'a>> {
+        match (self.parts.get(place), self.names.get(place)) {
+            (Some(part), Some(name)) => Some(Field {
+                part,
+                name: name.as_slice(),
+            }),
+            _ => None,
+        }
+    }
+
+    /// The first of these parts.
+    pub fn first(&self, count: usize) -> Fields<'p, 'a> {
+        match self.parts.get(..count) {
+            Some(parts) if count < self.parts.len() => {
+                fields_of(parts, self.names, None, self.is_tagged)
+            }
+            _ => *self,
+        }
+    }
+
+    /// The parts from a place on.
+    pub fn from(&self, start: usize) -> Fields<'p, 'a> {
+        let tail = match self.tail {
+            Some(place) => Some(place.saturating_sub(start)),
+            None => None,
+        };
+        match (self.parts.get(start..), self.names.get(start..)) {
+            (Some(parts), Some(names)) => {
+                fields_of(parts, names, tail, self.is_tagged && start == 0)
+            }
+            _ => *self,
+        }
+    }
+
+    // The name of the field of the elements that this version doesn't know.
+    fn unknown(&self) -> &'p [u8] {
+        match self.names.last() {
+            Some(name) => name.as_slice(),
+            None => b"",
+        }
+    }
+}
+
 // Whether a part has a default.
 fn has_default(part: &Part<'_>) -> bool {
     match &part.presence {
@@ -154,33 +288,87 @@ fn has_default(part: &Part<'_>) -> bool {
     }
 }
 
-fn listed(listing: &'static Listing, part: &Part<'_>) -> &'static str {
+fn listed(listing: &'static Listing, part: &Part<'_>, is_tail: bool) -> &'static str {
+    if is_tail {
+        return if has_default(part) {
+            listing.possible_default
+        } else {
+            listing.possible
+        };
+    }
     if is_last(part) {
         return listing.last;
     }
-    match &part.presence {
-        Presence::Required => listing.required,
-        Presence::Optional => listing.optional,
-        Presence::Default(_) => listing.default,
+    if is_optional(part) {
+        return listing.optional;
+    }
+    if has_default(part) {
+        listing.default
+    } else {
+        listing.required
+    }
+}
+
+/// Appends the name of the type of the default of a field, whose values are those of an ENUMERATED.
+pub fn put_default_name(field: &[u8], out: &mut Text) {
+    put_camel(field, out);
+    out.say("Default");
+}
+
+// Appends a text of a default.
+fn put_default_text(
+    text: &str,
+    field: &Field<'_, '_>,
+    value: &DefaultValue<'_>,
+    names: &TypeNames,
+    out: &mut Text,
+) {
+    let mut shaped = out.another();
+    put_shaped(text, default_shape(value), &mut shaped);
+    for octet in shaped.as_slice() {
+        match *octet {
+            b'&' => put_default_name(field.name, out),
+            b'$' => {
+                if let Some(name) = names.named(untagged(&field.part.notation)) {
+                    out.put(name.law.as_slice());
+                }
+            }
+            other => out.put_octet(other),
+        }
+    }
+    if shaped.is_cut() {
+        out.cut();
+    }
+}
+
+// Appends the term that values that equal a default are detected alike.
+fn put_same(text: &str, field: &Field<'_, '_>, names: &TypeNames, out: &mut Text) {
+    match text.split_once("@L") {
+        Some((_, after)) => {
+            put_notation(&field.part.notation, Aspect::Law, true, names, out);
+            out.say(after);
+        }
+        None => out.say(text),
     }
 }
 
 // Appends what a mark of a default represents.
-fn put_default(mark: u8, part: &Part<'_>, out: &mut Text) {
-    if let Presence::Default(value) = &part.presence {
-        let texts = default_texts(&part.notation, value);
-        let text = match mark {
-            b'D' => texts.name,
-            b'I' => texts.test,
-            b'E' => texts.value,
-            _ => texts.detects,
-        };
-        put_shaped(text, default_shape(value), out);
+fn put_default(mark: u8, field: &Field<'_, '_>, names: &TypeNames, out: &mut Text) {
+    let Presence::Default(value) = &field.part.presence else {
+        return;
+    };
+    let texts = default_texts(&field.part.notation, value);
+    match mark {
+        b'D' => put_default_text(texts.name, field, value, names, out),
+        b'I' => put_default_text(texts.test, field, value, names, out),
+        b'E' => put_default_text(texts.value, field, value, names, out),
+        b'T' => put_default_text(texts.detects, field, value, names, out),
+        _ => put_same(texts.same, field, names, out),
     }
 }
 
-// Appends what a mark represents.
-fn put_mark(mark: u8, field: &Field<'_, '_>, names: &TypeNames, out: &mut Text) {
+/// Appends what a mark of a part represents.
+pub fn put_mark(mark: u8, field: &Field<'_, '_>, names: &TypeNames, out: &mut Text) {
     let part = field.part;
     let is_default = has_default(part);
     match mark {
@@ -189,7 +377,7 @@ fn put_mark(mark: u8, field: &Field<'_, '_>, names: &TypeNames, out: &mut Text) 
         b'L' => put_notation(&part.notation, Aspect::Law, is_default, names, out),
         b'W' => put_notation(&part.notation, Aspect::Written, is_default, names, out),
         b'f' => out.put(field.name),
-        _ => put_default(mark, part, out),
+        _ => put_default(mark, field, names, out),
     }
 }
 
@@ -208,31 +396,71 @@ fn put_part(text: &str, field: &Field<'_, '_>, names: &TypeNames, out: &mut Text
     }
 }
 
-/// Appends parts as a listing says. `end` is in place of what follows them.
+// Appends a text with the name of a field for its mark.
+fn put_unknown(text: &str, name: &[u8], out: &mut Text) {
+    match text.split_once("@u") {
+        Some((before, after)) => {
+            out.say(before);
+            out.put(name);
+            out.say(after);
+        }
+        None => out.say(text),
+    }
+}
+
+// Appends the parts of the end of an extensible SEQUENCE as a listing says, and the elements after them.
+fn put_tail(
+    listing: &'static Listing,
+    fields: &Fields<'_, '_>,
+    start: usize,
+    names: &TypeNames,
+    out: &mut Text,
+) {
+    if listing.possible.is_empty() {
+        put_tail_law(fields, start, names, out);
+        return;
+    }
+    let count = fields.parts.len().saturating_sub(start);
+    for place in start..fields.parts.len() {
+        let Some(field) = fields.at(place) else { break };
+        put_part(listed(listing, field.part, true), &field, names, out);
+    }
+    let [rest, others] = listing.rest;
+    put_unknown(
+        if count == 0 { rest } else { others },
+        fields.unknown(),
+        out,
+    );
+    out.repeat(listing.possible_close, count);
+}
+
+/// Appends parts as a listing says. `end` is in place of what follows them, but for the elements that this version doesn't know.
 pub fn put_parts(
     listing: &'static Listing,
-    parts: &[Part<'_>],
-    fields: &[Vec<u8>],
+    fields: &Fields<'_, '_>,
     end: &[u8],
     names: &TypeNames,
     out: &mut Text,
 ) {
+    let count = match fields.tail {
+        Some(start) => start,
+        None => fields.parts.len(),
+    };
     let mut opened = 0usize;
     let mut is_ended = false;
-    for (part, name) in parts.iter().zip(fields.iter()) {
-        let field = Field {
-            part,
-            name: name.as_slice(),
-        };
-        put_part(listed(listing, part), &field, names, out);
-        if is_last(part) {
+    for place in 0..count {
+        let Some(field) = fields.at(place) else { break };
+        put_part(listed(listing, field.part, false), &field, names, out);
+        if is_last(field.part) {
             is_ended = true;
-        } else if opened < usize::MAX {
-            opened += 1;
+        } else {
+            opened = opened.saturating_add(1);
         }
     }
-    if !is_ended {
-        out.put(end);
+    match fields.tail {
+        Some(start) => put_tail(listing, fields, start, names, out),
+        None if is_ended => {}
+        None => out.put(end),
     }
     out.repeat(listing.close, opened);
 }

@@ -1,13 +1,14 @@
 //! The sources of the parts of a long SEQUENCE: those after the first ones have a file and a name of their own.
 
-use crate::parts::{HELD, VALUES, put_parts};
+use crate::item_defaults::set_item_defaults;
+use crate::open_choices::may_be_absent;
+use crate::parts::{Fields, HELD};
 use crate::sequence_source::{RestName, first_of, set_all, set_references, set_run_texts};
 use crate::template::Fragments;
 use crate::templates::{CANONICAL_PARTS_IMPL, PARTS_IMPLS};
 use crate::terms::TypeName;
 use crate::text::Text;
 use crate::type_source::{CrateSource, Files, put_source, rest_clauses, rest_code};
-use asn1_types::model::{Part, Presence};
 use std::alloc::{AllocError, Global};
 
 // The most parts of one file, and the most among them that may be absent.
@@ -15,27 +16,43 @@ const MOST_PARTS: usize = 6;
 
 const MOST_ABSENT: usize = 3;
 
-fn may_be_absent(part: &Part<'_>) -> bool {
-    match &part.presence {
-        Presence::Required => false,
-        _ => true,
-    }
+// The most parts of one file under a tag, where one that may be absent counts as three: `rt check` rejects a type that is deeper.
+const MOST_UNDER_TAG: usize = 8;
+
+// Whether one file may hold so many parts, of which so many may be absent.
+fn fits(count: usize, absent: usize, is_tagged: bool) -> bool {
+    let weight = count.saturating_add(absent).saturating_add(absent);
+    count <= MOST_PARTS && absent <= MOST_ABSENT && (!is_tagged || weight <= MOST_UNDER_TAG)
 }
 
-/// How many of these parts one file holds.
-pub fn first_run(parts: &[Part<'_>]) -> usize {
+/// How many of these parts one file holds. Those at the end of an extensible SEQUENCE that may be absent are in one file.
+pub fn first_run(fields: &Fields<'_, '_>) -> usize {
+    let all = fields.parts.len();
+    let tail = match fields.tail {
+        Some(start) => start,
+        None => all,
+    };
     let mut count = 0usize;
     let mut absent = 0usize;
-    for part in parts {
+    for (place, part) in fields.parts.iter().enumerate() {
+        if place >= tail {
+            break;
+        }
         if may_be_absent(part) {
             absent = absent.saturating_add(1);
         }
-        if count == MOST_PARTS || absent > MOST_ABSENT {
+        if !fits(count.saturating_add(1), absent, fields.is_tagged) {
             return count;
         }
         count = count.saturating_add(1);
     }
-    count
+    let more = all.saturating_sub(tail);
+    let (whole, absent) = (count.saturating_add(more), absent.saturating_add(more));
+    if count == 0 || fits(whole, absent, fields.is_tagged) {
+        all
+    } else {
+        count
+    }
 }
 
 // The name of the parts from a place on.
@@ -62,31 +79,23 @@ fn rest_source(
     own: &RestName,
     rest: &RestName,
     count: usize,
-    parts: &[Part<'_>],
-    fields: &[Vec<u8>],
-) -> Text {
+    fields: &Fields<'_, '_>,
+) -> Result<Text, AllocError> {
     let mut fragments = Fragments::new(alloc);
     fragments.set_octets(b'K', source.krate);
     fragments.set_octets(b'R', own.name.as_slice());
     fragments.set_octets(b'O', whole.name.as_slice());
     fragments.set_octets(b'y', rest.file.as_slice());
     fragments.set_octets(b'Y', rest.name.as_slice());
-    let (first, theirs) = (first_of(parts, count), first_of(fields, count));
-    set_run_texts(alloc, &mut fragments, first, theirs, rest, source.names);
-    set_references(
-        &mut fragments,
-        b'E',
-        first,
-        theirs,
-        rest,
-        "*value",
-        source.names,
-    );
-    set_all(&mut fragments, b'H', &HELD, parts, fields, source.names);
+    let first = fields.first(count);
+    set_run_texts(alloc, &mut fragments, &first, rest, source.names);
+    set_references(&mut fragments, b'E', &first, rest, "*value", source.names);
+    set_all(&mut fragments, b'H', &HELD, fields, source.names);
+    set_item_defaults(alloc, &mut fragments, source, &first)?;
     fragments.set_filled(b'V', "@U");
     fragments.set_term(b'7', "@Q", 25);
     fragments.set_term(b'8', "@X", 25);
-    finished(alloc, source, whole, !rest.name.is_empty(), &fragments)
+    Ok(finished(alloc, source, whole, !rest.name.is_empty(), &fragments))
 }
 
 // The source of parts whose marks are set.
@@ -98,13 +107,15 @@ fn finished(
     fragments: &Fragments,
 ) -> Text {
     let mut body = Text::new(alloc);
-    fragments.fill("type Each = @T;\n", &mut body);
+    fragments.fill("@ztype Each = @T;\n", &mut body);
     fragments.fill(PARTS_IMPLS, &mut body);
     if whole.is_canonical {
         fragments.fill(CANONICAL_PARTS_IMPL, &mut body);
     }
+    body.put(fragments.get(b'd'));
     let mut clauses = Text::new(alloc);
     fragments.fill(rest_clauses(has_rest, whole.is_canonical), &mut clauses);
+    clauses.put(fragments.get(b'j'));
     let mut code = Text::new(alloc);
     fragments.fill(rest_code(has_rest), &mut code);
     let mut text = Text::new(alloc);
@@ -124,23 +135,17 @@ fn finished(
     text
 }
 
-// What is after the first of some parts.
-fn skipped<'p, 'a>(parts: &'p [Part<'a>], count: usize) -> &'p [Part<'a>] {
-    let (_, others) = parts.split_at(count.min(parts.len()));
-    others
-}
-
 // How many parts each file holds.
-fn counts_of(alloc: Global, parts: &[Part<'_>]) -> Result<Vec<usize>, AllocError> {
+fn counts_of(alloc: Global, fields: &Fields<'_, '_>) -> Result<Vec<usize>, AllocError> {
     let mut counts = Vec::new(alloc);
-    let mut rest = parts;
-    for _ in 0..parts.len() {
-        let count = first_run(rest);
+    let mut start = 0usize;
+    for _ in 0..fields.parts.len() {
+        let count = first_run(&fields.from(start));
         if counts.push(count).is_err() {
             return Err(AllocError);
         }
-        rest = skipped(rest, count);
-        if rest.is_empty() {
+        start = start.saturating_add(count);
+        if start >= fields.parts.len() {
             break;
         }
     }
@@ -163,12 +168,11 @@ fn add_rest(
     rest: &RestName,
     number: usize,
     count: usize,
-    parts: &[Part<'_>],
-    fields: &[Vec<u8>],
+    fields: &Fields<'_, '_>,
     files: &mut Files,
 ) -> Result<RestName, AllocError> {
     let own = name_of_rest(alloc, whole, number)?;
-    let text = rest_source(alloc, source, whole, &own, rest, count, parts, fields);
+    let text = rest_source(alloc, source, whole, &own, rest, count, fields)?;
     files.add("src/", own.file.as_slice(), ".rt", text)?;
     Ok(own)
 }
@@ -187,11 +191,10 @@ pub fn put_rests(
     alloc: Global,
     source: &CrateSource<'_, '_>,
     whole: &TypeName,
-    parts: &[Part<'_>],
-    fields: &[Vec<u8>],
+    fields: &Fields<'_, '_>,
     files: &mut Files,
 ) -> Result<RestName, AllocError> {
-    let counts = counts_of(alloc, parts)?;
+    let counts = counts_of(alloc, fields)?;
     let mut rest = no_rest(alloc);
     for back in 1..counts.len() {
         let place = counts.len() - back;
@@ -200,9 +203,6 @@ pub fn put_rests(
             Some(count) => *count,
             None => 0,
         };
-        let (Some(all), Some(names)) = (parts.get(start..), fields.get(start..)) else {
-            continue;
-        };
         let own = add_rest(
             alloc,
             source,
@@ -210,8 +210,7 @@ pub fn put_rests(
             &rest,
             place.saturating_add(1),
             count,
-            all,
-            names,
+            &fields.from(start),
             files,
         )?;
         rest = own;

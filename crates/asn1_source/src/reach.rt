@@ -19,8 +19,8 @@ fn mark_parts(components: &Components<'_>, wanted: &mut Vec<bool>) {
     }
 }
 
-// Marks the types that a type names.
-fn mark_body(body: &Body<'_>, wanted: &mut Vec<bool>) {
+/// Marks the types that a type names.
+pub fn mark_body(body: &Body<'_>, wanted: &mut Vec<bool>) {
     match body {
         Body::Sequence(components) => mark_parts(components, wanted),
         Body::Set(components) => mark_parts(components, wanted),

@@ -1,11 +1,12 @@
 //! The source of a SEQUENCE.
 
+use crate::extension::put_omitted;
 use crate::parts::*;
 use crate::template::Fragments;
 use crate::templates::{Bodies, EXPLICIT_BODIES, IMPLICIT_BODIES, SEQUENCE_BODIES};
 use crate::terms::{Aspect, TypeNames, put_under};
 use crate::text::Text;
-use asn1_types::model::{Part, TagClass, TagLayer, TagMode};
+use asn1_types::model::{TagClass, TagLayer, TagMode};
 use std::alloc::Global;
 
 /// The name of the parts that follow those of a file, and that of their file. Both are empty if none follow.
@@ -46,41 +47,44 @@ fn set_listed(
     fragments: &mut Fragments,
     mark: u8,
     listing: &'static Listing,
-    parts: &[Part<'_>],
-    fields: &[Vec<u8>],
+    fields: &Fields<'_, '_>,
     end: &Text,
     names: &TypeNames,
 ) {
     let mut text = fragments.text();
-    put_parts(listing, parts, fields, end.as_slice(), names, &mut text);
+    put_parts(listing, fields, end.as_slice(), names, &mut text);
     fragments.set(mark, text);
 }
 
-/// Sets `T` to the notations of parts, `U` for its values, `Q` for the term of its law and `X` for that of its law of writing.
+/// Sets `T` to the notations of parts, `U` for its values, `Q` for the term of its law and `X` for that of its law of writing. `z` is an alias that
+/// the notations name.
 pub fn set_run_texts(
     alloc: Global,
     fragments: &mut Fragments,
-    parts: &[Part<'_>],
-    fields: &[Vec<u8>],
+    fields: &Fields<'_, '_>,
     rest: &RestName,
     names: &TypeNames,
 ) {
     let end = end_of(alloc, rest, &NOTATIONS, "", "", false);
-    set_listed(fragments, b'T', &NOTATIONS, parts, fields, &end, names);
+    set_listed(fragments, b'T', &NOTATIONS, fields, &end, names);
     let end = end_of(alloc, rest, &VALUES, "", "Fields", false);
-    set_listed(fragments, b'U', &VALUES, parts, fields, &end, names);
+    set_listed(fragments, b'U', &VALUES, fields, &end, names);
     let end = end_of(alloc, rest, &LAW, "(", "_parts refl)", true);
-    set_listed(fragments, b'Q', &LAW, parts, fields, &end, names);
+    set_listed(fragments, b'Q', &LAW, fields, &end, names);
     let end = end_of(alloc, rest, &WRITTEN, "(", "_written refl)", true);
-    set_listed(fragments, b'X', &WRITTEN, parts, fields, &end, names);
+    set_listed(fragments, b'X', &WRITTEN, fields, &end, names);
+    let mut omitted = Text::new(alloc);
+    if let Some(start) = fields.tail {
+        put_omitted(fields, start, names, &mut omitted);
+    }
+    fragments.set(b'z', omitted);
 }
 
 /// Sets a mark to the references to the fields of parts, before this text if others follow.
 pub fn set_references(
     fragments: &mut Fragments,
     mark: u8,
-    parts: &[Part<'_>],
-    fields: &[Vec<u8>],
+    fields: &Fields<'_, '_>,
     rest: &RestName,
     whole: &str,
     names: &TypeNames,
@@ -91,7 +95,7 @@ pub fn set_references(
     } else {
         whole
     });
-    set_listed(fragments, mark, &REFERENCES, parts, fields, &end, names);
+    set_listed(fragments, mark, &REFERENCES, fields, &end, names);
 }
 
 /// Sets a mark to all parts as a listing says.
@@ -99,19 +103,11 @@ pub fn set_all(
     fragments: &mut Fragments,
     mark: u8,
     listing: &'static Listing,
-    parts: &[Part<'_>],
-    fields: &[Vec<u8>],
+    fields: &Fields<'_, '_>,
     names: &TypeNames,
 ) {
     let mut text = fragments.text();
-    put_parts(
-        listing,
-        parts,
-        fields,
-        listing.end.as_bytes(),
-        names,
-        &mut text,
-    );
+    put_parts(listing, fields, listing.end.as_bytes(), names, &mut text);
     fragments.set(mark, text);
 }
 
@@ -170,24 +166,23 @@ pub fn set_sequence(
     fragments: &mut Fragments,
     count: usize,
     rest: &RestName,
-    parts: &[Part<'_>],
-    fields: &[Vec<u8>],
+    fields: &Fields<'_, '_>,
     tags: &[TagLayer],
     names: &TypeNames,
 ) {
-    let (first, theirs) = (first_of(parts, count), first_of(fields, count));
-    set_run_texts(alloc, fragments, first, theirs, rest, names);
-    set_references(fragments, b'R', first, theirs, rest, "value", names);
-    set_all(fragments, b'D', &FIELDS, parts, fields, names);
-    set_all(fragments, b'o', &VALUE_OF, parts, fields, names);
+    let first = fields.first(count);
+    set_run_texts(alloc, fragments, &first, rest, names);
+    set_references(fragments, b'R', &first, rest, "value", names);
+    set_all(fragments, b'D', &FIELDS, fields, names);
+    set_all(fragments, b'o', &VALUE_OF, fields, names);
     fragments.set_filled(b'v', "λ v. @o");
-    set_all(fragments, b'P', &PATTERN, parts, fields, names);
-    set_all(fragments, b'n', &NAMES, parts, fields, names);
+    set_all(fragments, b'P', &PATTERN, fields, names);
+    set_all(fragments, b'n', &NAMES, fields, names);
     set_whole(tags, fragments);
     fragments.set_octets(b'V', b"Fields");
     fragments.set_filled(
         b'A',
-        "type Parts = @T;\n\ntype Fields = @U;\n\ntype Notated = @W;\n\n",
+        "@ztype Parts = @T;\n\ntype Fields = @U;\n\ntype Notated = @W;\n\n",
     );
     fragments.set_filled(b'S', "#[derive(Drop)]\npub struct @N {\n@D}\n");
     fragments.set_filled(b'f', "@N { @n}");

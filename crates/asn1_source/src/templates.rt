@@ -226,10 +226,81 @@ impl CanonicalParts for @R {
 }
 ";
 
+/// Alternatives of a CHOICE by one name. `@R` is their name, `@U` the sides of their values.
+pub static ALTERNATIVES_IMPLS: &str = "
+/// The values of these alternatives.
+pub type @RSides = @U;
+
+/// These alternatives.
+pub struct @R;
+
+impl Alternatives for @R {
+    type Value = @RSides;
+
+    type Inner = ();
+
+    ghost tags = { ⟦<Each as Alternatives>⟧.tags };
+
+    ghost unambiguous = { ⟦<Each as Alternatives>⟧.unambiguous };
+
+    ghost encodes = { ⟦<Each as Alternatives>⟧.encodes };
+
+    ghost elements = { ⟦<Each as Alternatives>⟧.elements };
+
+    ghost may_allocate = { ⟦<Each as Alternatives>⟧.may_allocate };
+
+    ghost same = { ⟦<Each as Alternatives>⟧.same };
+
+    ghost encoding_under = { ⟦<Each as Alternatives>⟧.encoding_under };
+
+    ghost depth = { ⟦<Each as Alternatives>⟧.depth };
+
+    ghost can = { ⟦<Each as Alternatives>⟧.can };
+
+    ghost fits = { ⟦<Each as Alternatives>⟧.fits };
+
+    #[inline(always)]
+    fn has_tag(tag: Tag) -> bool {
+        <Each as Alternatives>::has_tag(tag)
+    }
+
+    #[inline(always)]
+    fn read_found(tag: Tag, reader: BERReader) -> ASN1Result<@RSides> {
+        <Each as Alternatives>::read_found(tag, reader)
+    }
+
+    #[inline(always)]
+    fn write(value: &@RSides, writer: DERWriter<'_>) -> ASN1Result<()> {
+        <Each as Alternatives>::write(value, writer)
+    }
+
+    #[inline(always)]
+    fn prepend(value: &@RSides, under: Option<Tag>, out: &mut PrependBuffer) -> ASN1Result<()> {
+        <Each as Alternatives>::prepend(value, under, out)
+    }
+
+    #[inline(always)]
+    fn encoded_len(value: &@RSides, under: Option<Tag>, mode: BERMode) -> Option<usize> {
+        <Each as Alternatives>::encoded_len(value, under, mode)
+    }
+
+    ghost laws = { λ _. @7 };
+
+    ghost non_empty = { @9 };
+}
+";
+
+/// The impl of alternatives of which what BER reads is written in DER.
+pub static CANONICAL_ALTERNATIVES_IMPL: &str = "
+impl CanonicalAlternatives for @R {
+    ghost written = { λ _. @8 };
+}
+";
+
 /// An enum of an ENUMERATED. `@I` is its variants, `@1` and `@2` the arms of its two functions, `@P` what the names of its specs begin with.
 pub static ENUMERATION: &str = "use yasna_notation_types::Numbered;
 
-/// `@A`.
+/// `@a`.
 #[derive(Clone, Copy)]
 pub enum @N {
 @I}
@@ -253,15 +324,56 @@ impl Numbered for @N {
 
     ghost writable = { @P_writable };
 }
+
+impl PartialEq for @N {
+    ghost eq = { on @P_number int_eq };
+
+    ghost laws = { partial_equiv_from_equiv (on_equiv @P_number int_eq_equiv) };
+
+    fn eq(&self, other: &@N) -> bool {
+        self.number() == other.number()
+    }
+}
+
+impl Eq for @N {
+    ghost laws = { on_equiv @P_number int_eq_equiv };
+}
 ";
 
+/// The type of a default of an ENUMERATED. `@i` is the item, `@X` the type, `@B` the notation, `@C` the enum, `@v` the variant, `@P` what the names of
+/// the specs begin with, `@n` the number in clauses.
+pub static ITEM_DEFAULT: &str = "
+/// `DEFAULT @i`.
+pub struct @X;
+
+impl DefaultValue<@B> for @X {
+    ghost default = { @XValue };
+
+    ghost is = { λ v. int_eq (@P_number v) @n };
+
+    fn default() -> @C {
+        @C::@v
+    }
+
+    ghost detects = { @P_detects @XValue };
+
+    ghost tests = { λ v. refl };
+}
+";
+
+/// What the source of such a default brings in.
+pub static ITEM_CLAUSES: &str =
+    "ghost use Rattle.@K.specs.declared.@F.@C.TheVariants.{@v as @XValue};\n";
+
 /// The specs of an enum. `@K` is its crate, `@F` its file, `@G` its variants, `@3` and `@4` the lines of a clause for each, `@5` its numbers.
-pub static ENUMERATION_SPECS: &str = "-- The numbers of `@A`.
+pub static ENUMERATION_SPECS: &str = "-- The numbers of `@a`.
 use Rattle.std.proofs.Common.{◌≡◌, ◌∷◌, [], ℤ, List, Bool, true, pos, negsuc, refl, FitsSigned, arith}
 use Rattle.std.specs.Prelude.{◌↔◌}
 use Rattle.std.specs.Int.{w64}
 use Rattle.std.specs.List.{list_any}
 use Rattle.std.specs.Ordering.{int_eq}
+use Rattle.std.proofs.lemmas.Bool.Decides.{Decides-int_eq}
+use Rattle.yasna_base.specs.Default.{DetectsDefault}
 use Rattle.@K.specs.declared.@F.@N.{@N}
 use Rattle.@K.specs.declared.@F.@N.TheVariants.{@G}
 
@@ -277,13 +389,20 @@ abbrev pub @P_allowed : @N → Type 0
 @P_allowed v = Unit {0}
 
 pub @P_writable : (v : @N) → @P_allowed v ↔ (FitsSigned w64 (@P_number v) × (@P_named (@P_number v) ≡ true))
-@4";
+@4
+-- values with the number of a value are equal to it
+pub @P_detects : (d : @N) → DetectsDefault (λ v w. @P_number v ≡ @P_number w) (λ v. int_eq (@P_number v) (@P_number d)) d
+@P_detects d v = Decides-int_eq (@P_number v) (@P_number d)
+";
 
 /// The specs of an extensible enum, whose last variant has any other number.
-pub static OPEN_ENUMERATION_SPECS: &str = "-- The numbers of `@A`.
+pub static OPEN_ENUMERATION_SPECS: &str = "-- The numbers of `@a`.
 use Rattle.std.proofs.Common.{◌≡◌, ℤ, Bool, true, pos, negsuc, refl, FitsSigned}
 use Rattle.std.specs.Prelude.{◌↔◌}
 use Rattle.std.specs.Int.{w64}
+use Rattle.std.specs.Ordering.{int_eq}
+use Rattle.std.proofs.lemmas.Bool.Decides.{Decides-int_eq}
+use Rattle.yasna_base.specs.Default.{DetectsDefault}
 use Rattle.@K.specs.declared.@F.@N.{@N}
 use Rattle.@K.specs.declared.@F.@N.TheVariants.{@G}
 
@@ -299,4 +418,8 @@ abbrev pub @P_allowed : @N → Type 0
 
 pub @P_writable : (v : @N) → @P_allowed v ↔ (FitsSigned w64 (@P_number v) × (@P_named (@P_number v) ≡ true))
 @P_writable v = (λ f. (f, refl), λ x. x.0)
+
+-- values with the number of a value are equal to it
+pub @P_detects : (d : @N) → DetectsDefault (λ v w. @P_number v ≡ @P_number w) (λ v. int_eq (@P_number v) (@P_number d)) d
+@P_detects d v = Decides-int_eq (@P_number v) (@P_number d)
 ";

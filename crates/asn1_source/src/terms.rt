@@ -34,8 +34,12 @@ pub struct TypeName {
     pub law: Vec<u8>,
     /// Whether it is an enum of an ENUMERATED.
     pub is_enumeration: bool,
+    /// The tags around the notation of such an enum, outermost first.
+    pub tags: Vec<TagLayer>,
     /// Whether what BER reads of it is written in DER.
     pub is_canonical: bool,
+    /// Whether it is a CHOICE of which an alternative that this version doesn't know is a value.
+    pub is_open: bool,
 }
 
 /// The names of all types that a source may hold.
@@ -143,7 +147,7 @@ fn put_name_in(text: &str, name: &TypeName, out: &mut Text) {
     }
 }
 
-// Appends a text of an ENUMERATED.
+// Appends a text of an ENUMERATED, within the tags before it.
 fn put_enumeration(name: &TypeName, aspect: Aspect, out: &mut Text) {
     let text = match aspect {
         Aspect::Notation => "Named<@>",
@@ -152,28 +156,18 @@ fn put_enumeration(name: &TypeName, aspect: Aspect, out: &mut Text) {
         Aspect::Written => "(named_written $_number $_named $_writable)",
         Aspect::NonEmpty => "(λ n w. element_non_empty _ _ _ _)",
     };
-    put_name_in(text, name, out);
-}
-
-// Appends a text of an ENUMERATED that has a default: its values are numbers.
-fn put_numbers(aspect: Aspect, out: &mut Text) {
-    out.say(match aspect {
-        Aspect::Notation => "Enumerated",
-        Aspect::Value => "i64",
-        Aspect::Law => "(enumerated_law refl)",
-        Aspect::Written => "(enumerated_written refl)",
-        Aspect::NonEmpty => "(λ n w. element_non_empty _ _ _ _)",
-    });
+    let mut inner = out.another();
+    put_name_in(text, name, &mut inner);
+    put_under(name.tags.as_slice(), aspect, inner.as_slice(), out);
+    if inner.is_cut() {
+        out.cut();
+    }
 }
 
 // Appends a text of a type by its name.
-fn put_named(name: &TypeName, aspect: Aspect, is_default: bool, out: &mut Text) {
+fn put_named(name: &TypeName, aspect: Aspect, out: &mut Text) {
     if name.is_enumeration {
-        if is_default {
-            put_numbers(aspect, out);
-        } else {
-            put_enumeration(name, aspect, out);
-        }
+        put_enumeration(name, aspect, out);
         return;
     }
     let text = match aspect {
@@ -194,7 +188,7 @@ pub fn put_notation(
     out: &mut Text,
 ) {
     if let Some(name) = names.named(notation) {
-        put_named(name, aspect, is_default, out);
+        put_named(name, aspect, out);
         return;
     }
     let size = size_of(notation);

@@ -53,7 +53,11 @@ impl Text {
                 column = 8;
             } else {
                 self.put_octet(octet);
-                column = column.saturating_add(1);
+                column = if octet == b'\n' {
+                    0
+                } else {
+                    column.saturating_add(1)
+                };
             }
         }
     }

@@ -35,7 +35,11 @@ static LAW_LINES: [Line; 3] = [
     },
 ];
 
-static NUMBER_LINES: [Line; 3] = [
+static NUMBER_LINES: [Line; 4] = [
+    Line {
+        ending: "_detects",
+        text: "ghost use Rattle.@K.specs.@N.{@P_detects};\n",
+    },
     Line {
         ending: "_number",
         text: "ghost use Rattle.@K.specs.@N.{@P_number};\n",
@@ -49,6 +53,37 @@ static NUMBER_LINES: [Line; 3] = [
         text: "ghost use Rattle.@K.specs.@N.{@P_writable};\n",
     },
 ];
+
+// Those of an ENUMERATED of another crate, whose specs have the name of its file.
+static OTHER_NUMBER_LINES: [Line; 4] = [
+    Line {
+        ending: "_detects",
+        text: "ghost use Rattle.@K.specs.@N.{@F_detects as @P_detects};\n",
+    },
+    Line {
+        ending: "_number",
+        text: "ghost use Rattle.@K.specs.@N.{@F_number as @P_number};\n",
+    },
+    Line {
+        ending: "_named",
+        text: "ghost use Rattle.@K.specs.@N.{@F_named as @P_named};\n",
+    },
+    Line {
+        ending: "_writable",
+        text: "ghost use Rattle.@K.specs.@N.{@F_writable as @P_writable};\n",
+    },
+];
+
+// The lines for the laws of a type.
+fn lines_of(name: &TypeName) -> &'static [Line] {
+    if !name.is_enumeration {
+        LAW_LINES.as_slice()
+    } else if name.origin.is_none() {
+        NUMBER_LINES.as_slice()
+    } else {
+        OTHER_NUMBER_LINES.as_slice()
+    }
+}
 
 /// Appends a text with what its marks represent.
 pub fn put_type_line(text: &str, krate: &[u8], name: &TypeName, out: &mut Text) {
@@ -98,11 +133,7 @@ fn put_lines(
 
 /// Appends the lines for the laws of a type that a text names.
 pub fn put_laws(alloc: Global, krate: &[u8], name: &TypeName, words: &Words<'_>, out: &mut Text) {
-    if name.is_enumeration {
-        put_lines(alloc, NUMBER_LINES.as_slice(), krate, name, words, out);
-    } else {
-        put_lines(alloc, LAW_LINES.as_slice(), krate, name, words, out);
-    }
+    put_lines(alloc, lines_of(name), krate, name, words, out);
 }
 
 /// Appends the line for a type that a text names.

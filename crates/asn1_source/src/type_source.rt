@@ -1,11 +1,16 @@
 //! The sources of a type.
 
-use crate::alternatives::choice_of;
-use crate::choice_source::{set_choice, variants_of};
+use crate::alternatives::{ChoiceSource, choice_of};
+use crate::alternatives_source;
+use crate::alternatives_source::{add_runs, set_second_file};
+use crate::choice_source::{run_size, set_choice, variants_of};
 use crate::enumeration_source::{enumeration_of, set_enumeration, specs_of};
+use crate::extension::tail_of;
 use crate::head::{ModuleSource, put_head, put_path};
 use crate::imports::{Words, put_clause_table, put_code_table};
+use crate::item_defaults::set_item_defaults;
 use crate::naming::{field_names, item_names, variant_names};
+use crate::parts::fields_of;
 use crate::parts_source::{first_run, put_rests};
 use crate::sequence_source::set_sequence;
 use crate::template::Fragments;
@@ -14,6 +19,7 @@ use crate::terms::{TypeName, TypeNames};
 use crate::text::Text;
 use crate::type_imports::{put_all_laws, put_all_types};
 use crate::value_source::{set_tagged, set_value};
+use asn1_types::TagSet;
 use asn1_types::model::{
     Alternatives, Body, Components, Constant, Definition, Enumeration, Notation, TagLayer,
 };
@@ -76,6 +82,8 @@ pub struct CrateSource<'p, 'a> {
     pub modules: &'p [ModuleSource<'a>],
     /// The definitions.
     pub definitions: &'p [Definition<'a>],
+    /// The tags that the encodings of each begin with.
+    pub tag_sets: &'p [TagSet],
     /// The names of all types.
     pub names: &'p TypeNames,
     /// Which definitions are wanted.
@@ -89,6 +97,7 @@ pub fn source_of<'p, 'a>(
     krate: &'p [u8],
     modules: &'p [ModuleSource<'a>],
     definitions: &'p [Definition<'a>],
+    tag_sets: &'p [TagSet],
     names: &'p TypeNames,
     wanted: &'p [bool],
     constants: &'p [Constant<'a>],
@@ -97,6 +106,7 @@ pub fn source_of<'p, 'a>(
         krate,
         modules,
         definitions,
+        tag_sets,
         names,
         wanted,
         constants,
@@ -143,6 +153,7 @@ fn body_of(fragments: &mut Fragments, is_canonical: bool) -> Text {
         fragments.fill(CANONICAL_IMPL, &mut body);
     }
     fragments.fill(CHECKED_IMPL, &mut body);
+    body.put(fragments.get(b'd'));
     body
 }
 
@@ -184,7 +195,7 @@ fn add_type(
 ) -> Result<(), AllocError> {
     let body = body_of(fragments, name.is_canonical);
     let mut text = Text::new(alloc);
-    put_head(alloc, source.modules, definition, &mut text);
+    put_head(alloc, source.modules, definition, name.is_open, &mut text);
     let mut more = Text::new(alloc);
     fragments.fill(clauses, &mut more);
     let mut lines = Text::new(alloc);
@@ -239,38 +250,74 @@ fn add_sequence(
     files: &mut Files,
 ) -> Result<(), AllocError> {
     let parts = components.parts.as_slice();
-    let fields = field_names(alloc, parts)?;
+    let field_names = field_names(alloc, parts)?;
+    let fields = fields_of(
+        parts,
+        field_names.as_slice(),
+        tail_of(components),
+        !tags.is_empty(),
+    );
     let mut fragments = begun(alloc, source, name, definition.path.as_slice());
-    let rest = put_rests(alloc, source, name, parts, fields.as_slice(), files)?;
+    let rest = put_rests(alloc, source, name, &fields, files)?;
     let has_rest = !rest.name.is_empty();
     fragments.set_octets(b'y', rest.file.as_slice());
     fragments.set_octets(b'Y', rest.name.as_slice());
-    set_sequence(
-        alloc,
-        &mut fragments,
-        first_run(parts),
-        &rest,
-        parts,
-        fields.as_slice(),
-        tags,
-        source.names,
-    );
-    let clauses = rest_clauses(has_rest, name.is_canonical);
+    let count = first_run(&fields);
+    let names = source.names;
+    set_sequence(alloc, &mut fragments, count, &rest, &fields, tags, names);
+    set_item_defaults(alloc, &mut fragments, source, &fields.first(count))?;
+    fragments.set_filled(b'e', rest_clauses(has_rest, name.is_canonical));
     add_type(
         alloc,
         source,
         definition,
         name,
         &mut fragments,
-        clauses,
+        "@e@j",
         rest_code(has_rest),
         files,
     )
 }
 
-const VARIANT_CLAUSES: &str = "ghost use Rattle.@K.specs.declared.@y.@N.TheVariants.{@G};\n";
+// What a CHOICE brings in.
+const VARIANT_CLAUSES: &str =
+    "ghost use Rattle.std.specs.Prelude.{[]};\nghost use Rattle.@K.specs.declared.@F.@N.TheVariants.{@G};\n";
 
-// Adds the file of a CHOICE.
+// Adds the files of a CHOICE whose source is this.
+fn add_choice_source(
+    alloc: Global,
+    source: &CrateSource<'_, '_>,
+    definition: &Definition<'_>,
+    name: &TypeName,
+    choice: &ChoiceSource<'_, '_>,
+    files: &mut Files,
+) -> Result<(), AllocError> {
+    let mut fragments = begun(alloc, source, name, definition.path.as_slice());
+    fragments.set_octets(b'F', name.file.as_slice());
+    let count = choice.alternatives.len();
+    let size = run_size(count, name.is_open);
+    set_second_file(&mut fragments, name, choice, size);
+    set_choice(&mut fragments, choice, size, source.names);
+    add_runs(alloc, source, name, choice, size, files)?;
+    let has_rest = count > size;
+    fragments.set_filled(b's', VARIANT_CLAUSES);
+    fragments.set_filled(
+        b'e',
+        alternatives_source::rest_clauses(has_rest, name.is_canonical),
+    );
+    add_type(
+        alloc,
+        source,
+        definition,
+        name,
+        &mut fragments,
+        "@s@e",
+        alternatives_source::rest_code(has_rest),
+        files,
+    )
+}
+
+// Adds the files of a CHOICE.
 fn add_choice(
     alloc: Global,
     source: &CrateSource<'_, '_>,
@@ -280,22 +327,15 @@ fn add_choice(
     files: &mut Files,
 ) -> Result<(), AllocError> {
     let alternatives = choice.alternatives.as_slice();
-    let found = variant_names(alloc, alternatives)?;
+    let found = variant_names(alloc, alternatives, name.is_open)?;
     let variants = variants_of(alloc, found, name.name.as_slice(), source.names)?;
-    let mut fragments = begun(alloc, source, name, definition.path.as_slice());
-    fragments.set_octets(b'y', name.file.as_slice());
-    let of = choice_of(alternatives, variants.as_slice(), name.name.as_slice());
-    set_choice(&mut fragments, &of, source.names);
-    add_type(
-        alloc,
-        source,
-        definition,
-        name,
-        &mut fragments,
-        VARIANT_CLAUSES,
-        "",
-        files,
-    )
+    let of = choice_of(
+        alternatives,
+        variants.as_slice(),
+        name.name.as_slice(),
+        name.is_open,
+    );
+    add_choice_source(alloc, source, definition, name, &of, files)
 }
 
 // Adds the file of a type that holds one value.
@@ -322,7 +362,7 @@ fn add_value(
 }
 
 const NUMBER_CLAUSES: &str =
-    "ghost use Rattle.@K.specs.@N.{@P_number, @P_named, @P_allowed, @P_writable};\n\n";
+    "ghost use Rattle.std.specs.Ordering.{on, int_eq};\nghost use Rattle.std.specs.Cmp.{partial_equiv_from_equiv};\nghost use Rattle.std.proofs.lemmas.Cmp.{on_equiv, int_eq_equiv};\nghost use Rattle.@K.specs.@N.{@P_number, @P_named, @P_allowed, @P_writable};\n\n";
 
 // Adds the file of an ENUMERATED, and that of its specs.
 fn add_enumeration(
@@ -349,7 +389,7 @@ fn add_enumeration(
     fragments.set_octets(b'F', name.file.as_slice());
     set_enumeration(&mut fragments, &of);
     let mut text = Text::new(alloc);
-    put_head(alloc, source.modules, definition, &mut text);
+    put_head(alloc, source.modules, definition, name.is_open, &mut text);
     fragments.fill(NUMBER_CLAUSES, &mut text);
     fragments.fill(ENUMERATION, &mut text);
     files.add("src/", name.file.as_slice(), ".rt", text)?;
@@ -411,7 +451,9 @@ fn untagged_name(alloc: Global, name: &TypeName) -> Result<TypeName, AllocError>
             origin: None,
             law,
             is_enumeration: false,
+            tags: Vec::new(alloc),
             is_canonical: name.is_canonical,
+            is_open: name.is_open,
         }),
         _ => Err(AllocError),
     }

@@ -15,7 +15,7 @@ static RESERVED: [&str; 68] = [
 ];
 
 // Names that the sources themselves use.
-static TAKEN: [&str; 88] = [
+static TAKEN: [&str; 97] = [
     "ASN1Result",
     "Alternatives",
     "Any",
@@ -30,6 +30,7 @@ static TAKEN: [&str; 88] = [
     "Bound",
     "Bounded",
     "Box",
+    "CanonicalAlternatives",
     "CanonicalNotation",
     "CanonicalParts",
     "Checked",
@@ -66,6 +67,7 @@ static TAKEN: [&str; 88] = [
     "IntegerFromTo",
     "IntegerUpTo",
     "Iterator",
+    "Known",
     "Last",
     "List",
     "Message",
@@ -81,14 +83,20 @@ static TAKEN: [&str; 88] = [
     "NumericString",
     "ObjectIdentifier",
     "Ok",
+    "Omitted",
+    "OpenChoice",
     "Option",
     "Optional",
+    "Others",
     "Parts",
     "PartsBy",
+    "Possible",
+    "PossibleDefault",
     "PrependBuffer",
     "PrintableString",
     "Private",
     "Represents",
+    "Rest",
     "Result",
     "Second",
     "Self",
@@ -100,6 +108,7 @@ static TAKEN: [&str; 88] = [
     "Some",
     "String",
     "Tag",
+    "TaggedDerValue",
     "Types",
     "UTCTime",
     "Universal",

@@ -64,3 +64,4 @@ mod values;
 
 pub use modules::resolve;
 pub use problem::{Problem, ProblemKind, problem_text};
+pub use tags_of_types::TagSet;

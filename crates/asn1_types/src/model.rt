@@ -3,6 +3,7 @@
 //! A name is the octets of its source. A place is an offset in the source of a module.
 
 use crate::problem::Problem;
+use crate::tags_of_types::TagSet;
 
 /// A place in the source of a module.
 #[derive(Clone, Copy)]
@@ -20,6 +21,8 @@ pub struct Resolved<'a> {
     pub definitions: Vec<Definition<'a>>,
     /// The values that have a name, in the order of their modules.
     pub constants: Vec<Constant<'a>>,
+    /// Of each definition, the tags that its encodings begin with.
+    pub tag_sets: Vec<TagSet>,
     /// Why types are rejected. The list of definitions has none of these types.
     pub problems: Vec<Problem>,
 }

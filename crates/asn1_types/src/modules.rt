@@ -85,6 +85,7 @@ fn resolved<'a>(alloc: Global, scope: Scope<'a>) -> Result<Resolved<'a>, Stop> {
     }
     Ok(Resolved {
         definitions: r.definitions,
+        tag_sets: r.tag_sets,
         constants: constants.list,
         problems,
     })

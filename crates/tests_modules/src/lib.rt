@@ -4,6 +4,7 @@
 //! |---|---|
 //! | `described` | resolved types, described in one line each |
 //! | `fields` | which part of a type each element is |
+//! | `sources` | what `asn1_source` writes for types |
 //! | `syntax` | lexical items and trees of `asn1_syntax` |
 //! | `types` | what `asn1_types` resolves modules to |
 #![tactic(auto)]
@@ -12,6 +13,8 @@
 mod described;
 #[cfg(test)]
 mod fields;
+#[cfg(test)]
+mod sources;
 #[cfg(test)]
 mod syntax;
 #[cfg(test)]

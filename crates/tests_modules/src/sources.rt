@@ -1,0 +1,248 @@
+//! What `asn1_source` writes for the types of modules.
+
+use asn1_source::{
+    ModuleSource, SourceFile, list_of, mutants_of, names_of, reached, source_of, sources_of,
+    tests_of,
+};
+use asn1_syntax::parse;
+use asn1_syntax::tree::Module;
+use asn1_types::model::{KnownType, Resolved};
+use asn1_types::resolve;
+use std::alloc::{AllocError, Global};
+use std::process::Abort;
+
+/// A module, a file of its crate, and lines in that file. The file `list` is a line for each type.
+type Row = (&'static [u8], &'static str, &'static str);
+
+// A CHOICE: why no encoding of an alternative that is EXPLICIT or a list is empty.
+static CHOICES: [Row; 1] = [(
+    b"M DEFINITIONS IMPLICIT TAGS ::= BEGIN Pick ::= CHOICE { flag [0] EXPLICIT BOOLEAN, names SEQUENCE OF UTF8String, size [1] INTEGER, none NULL } END",
+    "src/pick.rt",
+    "      | Flag x ↦ element_non_empty _ _ _ _\n      | Names x ↦ element_non_empty _ _ _ _\n      | Size x ↦ (big_non_empty (Some (tag_or u (context 1)))) m x\n      | NoneVariant ↦ (null_non_empty u) m tt\n    ] };\n",
+)];
+
+// An extensible CHOICE: open, but not where tags have to distinguish it from what follows.
+static OPEN_CHOICES: [Row; 3] = [
+    (
+        b"M DEFINITIONS ::= BEGIN Shape ::= CHOICE { number INTEGER, ..., flag BOOLEAN } Box ::= SEQUENCE { shape Shape } END",
+        "src/shape.rt",
+        "type Types = (BigInteger, (bool,));\n\ntype Sides = Either<Either<(Vec<u8>, bool), bool>, TaggedDerValue>;\n\ntype Notated = OpenChoice<Types>;\n",
+    ),
+    (
+        b"M DEFINITIONS ::= BEGIN Shape ::= CHOICE { number INTEGER, ... } END",
+        "src/shape.rt",
+        "            First(value) => Shape::Number(value),\n            Second(value) => Shape::Unknown(value),\n",
+    ),
+    (
+        b"M DEFINITIONS ::= BEGIN Shape ::= CHOICE { number INTEGER, ... } Box ::= SEQUENCE { shape Shape OPTIONAL, label UTF8String } END",
+        "src/shape.rt",
+        "//! An alternative that a later version may add is rejected.\n",
+    ),
+];
+
+// A CHOICE of ten alternatives, of which the last three are in a file of their own.
+static LONG_CHOICES: [Row; 3] = [
+    (
+        b"M DEFINITIONS AUTOMATIC TAGS ::= BEGIN Long ::= CHOICE { a NULL, b NULL, c NULL, d NULL, e NULL, f NULL, g NULL, h BOOLEAN, i NULL, j NULL } END",
+        "src/long.rt",
+        "            Second(Second(Second(Second(Second(Second(Second(rest))))))) => match rest {\n            First(value) => Long::H(value),\n",
+    ),
+    (
+        b"M DEFINITIONS AUTOMATIC TAGS ::= BEGIN Long ::= CHOICE { a NULL, b NULL, c NULL, d NULL, e NULL, f NULL, g NULL, h BOOLEAN, i NULL, j NULL } END",
+        "src/long_types2.rt",
+        "type Each = (Implicit<Context<7>, bool>, (Implicit<Context<8>, ()>, (Implicit<Context<9>, ()>,)));\n",
+    ),
+    (
+        b"M DEFINITIONS AUTOMATIC TAGS ::= BEGIN Nine ::= CHOICE { a NULL, b NULL, c NULL, d NULL, e NULL, f NULL, g NULL, h BOOLEAN, i NULL } END",
+        "src/nine.rt",
+        "            Second(Second(Second(Second(Second(Second(Second(Second(())))))))) => Nine::I,\n",
+    ),
+];
+
+// An extensible SEQUENCE: elements after mandatory parts, after others, and between parts.
+static SEQUENCES: [Row; 3] = [
+    (
+        b"M DEFINITIONS ::= BEGIN Head ::= SEQUENCE { version INTEGER (0..9), ... } END",
+        "src/head.rt",
+        "type Parts = (Bounded<u64, AtMost<9>>, Rest<TaggedDerValue>);\n",
+    ),
+    (
+        b"M DEFINITIONS IMPLICIT TAGS ::= BEGIN Head ::= SEQUENCE { id NULL, flag BOOLEAN DEFAULT FALSE, ..., [[ name [0] UTF8String ]] } END",
+        "src/head.rt",
+        "type Omitted = Choice<(bool, (Implicit<Context<0>, String>,))>;\n\ntype Parts = ((), PossibleDefault<bool, False, Possible<Implicit<Context<0>, String>, Others<Omitted>>>);\n",
+    ),
+    (
+        b"M DEFINITIONS ::= BEGIN Head ::= SEQUENCE { id NULL, ..., ..., name UTF8String } END",
+        "src/head.rt",
+        "//! An element that a later version may add is rejected.\n",
+    ),
+];
+
+// An ENUMERATED: its tags, a DEFAULT, and the size of a BMPString, which isn't tested.
+static VALUES: [Row; 5] = [
+    (
+        b"L DEFINITIONS ::= BEGIN END M DEFINITIONS ::= BEGIN Speed ::= ENUMERATED { off, slow } END",
+        "src/speed.rt",
+        "//! Speed ::= ENUMERATED { off, slow }\n//! ```\n",
+    ),
+    (
+        b"M DEFINITIONS ::= BEGIN Speed ::= [APPLICATION 1] IMPLICIT ENUMERATED { off, slow } Motor ::= SEQUENCE { speed Speed } END",
+        "src/motor.rt",
+        "type Parts = (Implicit<Application<1>, Named<Speed>>, ());\n",
+    ),
+    (
+        b"M DEFINITIONS ::= BEGIN Speed ::= ENUMERATED { off, slow } Motor ::= SEQUENCE { speed Speed DEFAULT slow } END",
+        "src/motor.rt",
+        "type Parts = (Default<Named<Speed>, SpeedDefault>, ());\n",
+    ),
+    (
+        b"M DEFINITIONS ::= BEGIN Speed ::= ENUMERATED { off, slow } Motor ::= SEQUENCE { speed Speed DEFAULT slow } END",
+        "src/motor.rt",
+        "    fn default() -> Speed {\n        Speed::Slow\n    }\n",
+    ),
+    (
+        b"M DEFINITIONS ::= BEGIN Name ::= SEQUENCE { text BMPString (SIZE (1..8)) } END",
+        "list",
+        "Name: accepts more, canonical\n",
+    ),
+];
+
+const LEVEL: &[u8] =
+    b"M DEFINITIONS ::= BEGIN Level ::= [APPLICATION 40] SEQUENCE { number INTEGER (5..9), name [1] IMPLICIT UTF8String OPTIONAL } END";
+
+// What is written beside the sources of a crate: the types that it exports, its tests, and edits that are wrong.
+static OTHER_FILES: [Row; 4] = [
+    (
+        b"M DEFINITIONS ::= BEGIN Pick ::= CHOICE { flag [0] BOOLEAN, size INTEGER } END",
+        "exports",
+        "M Pick pick Pick C0,U2 choice canonical\n",
+    ),
+    (
+        LEVEL,
+        "src/samples.rt",
+        "    assert!(rt; comes_back::<Encoded<Level>>(rt.alloc(), b\"\\x7f\\x28\\x05\\x30\\x03\\x02\\x01\\x05\"));\n",
+    ),
+    (
+        LEVEL,
+        "src/samples.rt",
+        "(rt.alloc(), b\"\\x7f\\x28\\x08\\x30\\x06\\x02\\x01\\x05\\x81\\x01\\x61\"));\n",
+    ),
+    (
+        LEVEL,
+        "must-fail/level_has_other_tags.edit",
+        "new:         !<Notated as Notation>::has_tag(tag)\n",
+    ),
+];
+
+// Whether a text is in another one.
+fn holds(text: &[u8], part: &[u8]) -> bool {
+    for start in 0..text.len() {
+        match text.get(start..) {
+            Some(rest) if rest.starts_with(part) => return true,
+            _ => {}
+        }
+    }
+    false
+}
+
+// Whether the file of this path has some lines.
+fn holds_in(files: &[SourceFile], path: &str, lines: &str) -> bool {
+    for one in files {
+        if one.path.as_slice() == path.as_bytes() && holds(one.text.as_slice(), lines.as_bytes()) {
+            return true;
+        }
+    }
+    false
+}
+
+// Whether a file of the crate of resolved modules, or one that tests it, has some lines.
+fn has_lines<'a>(
+    alloc: Global,
+    source: &'a [u8],
+    modules: &'a [Module<'a>],
+    resolved: &Resolved<'a>,
+    file: &str,
+    lines: &str,
+) -> Result<bool, AllocError> {
+    let definitions = resolved.definitions.as_slice();
+    let names = names_of(alloc, definitions, Vec::new(alloc))?;
+    let wanted = reached(alloc, definitions, None)?;
+    let mut sources = Vec::new(alloc);
+    for tree in modules {
+        sources.push(ModuleSource { source, tree })?;
+    }
+    let of = source_of(
+        b"sample",
+        sources.as_slice(),
+        definitions,
+        resolved.tag_sets.as_slice(),
+        &names,
+        wanted.as_slice(),
+        resolved.constants.as_slice(),
+    );
+    if file == "list" {
+        return Ok(holds(list_of(alloc, &of).as_slice(), lines.as_bytes()));
+    }
+    Ok(
+        holds_in(sources_of(alloc, &of)?.as_slice(), file, lines)
+            || holds_in(tests_of(alloc, &of)?.as_slice(), file, lines)
+            || holds_in(mutants_of(alloc, &of)?.as_slice(), file, lines),
+    )
+}
+
+// Whether a file of the crate of modules, or one that tests it, has some lines.
+fn is_written<'a>(
+    alloc: Global,
+    source: &'a [u8],
+    modules: &'a [Module<'a>],
+    known: &'a [KnownType<'a>],
+    file: &str,
+    lines: &str,
+) -> bool {
+    match resolve(alloc, modules, known) {
+        Ok(resolved) => {
+            has_lines(alloc, source, modules, &resolved, file, lines).unwrap_or(false)
+        }
+        Err(_) => false,
+    }
+}
+
+// The lines of the first row that aren't in its file. Modules are never freed, since they are lent for as long as they are.
+fn first_missing(
+    alloc: Global,
+    rows: &'static [Row],
+    known: &'static [KnownType<'static>],
+) -> Option<&'static str> {
+    for row in rows {
+        let is_so = match parse(alloc, row.0) {
+            Ok(modules) => is_written(alloc, row.0, modules.leak(), known, row.1, row.2),
+            Err(_) => false,
+        };
+        if !is_so {
+            return Some(row.2);
+        }
+    }
+    None
+}
+
+#[test]
+fn choices_are_written(rt: HostRuntime) {
+    assert!(rt; first_missing(rt.alloc(), &CHOICES, &[]).is_none());
+    assert!(rt; first_missing(rt.alloc(), &OPEN_CHOICES, &[]).is_none());
+    assert!(rt; first_missing(rt.alloc(), &LONG_CHOICES, &[]).is_none());
+}
+
+#[test]
+fn sequences_are_written(rt: HostRuntime) {
+    assert!(rt; first_missing(rt.alloc(), &SEQUENCES, &[]).is_none());
+}
+
+#[test]
+fn enumerations_are_written(rt: HostRuntime) {
+    assert!(rt; first_missing(rt.alloc(), &VALUES, &[]).is_none());
+}
+
+#[test]
+fn other_files_are_written(rt: HostRuntime) {
+    assert!(rt; first_missing(rt.alloc(), &OTHER_FILES, &[]).is_none());
+}
