@@ -12,6 +12,7 @@ from pathlib import Path
 PROGRAM = Path("crates/asn1compile/out/asn1compile").resolve()
 REQUESTS = Path("modules/PKCS-10.asn1").resolve()
 REQUEST_TYPES = Path("crates/pkcs10").resolve()
+CERTIFICATE_TYPES = Path("crates/x509/exports").resolve()
 
 FIRST = """First DEFINITIONS AUTOMATIC TAGS ::= BEGIN
 IMPORTS Flags FROM Second;
@@ -21,6 +22,11 @@ END
 SECOND = """Second DEFINITIONS AUTOMATIC TAGS ::= BEGIN
 Flags ::= SEQUENCE OF BOOLEAN
 Alone ::= SEQUENCE { contents OCTET STRING }
+END
+"""
+THIRD = """Third DEFINITIONS AUTOMATIC TAGS ::= BEGIN
+IMPORTS Report FROM First Flags FROM Second;
+Box ::= CHOICE { report Report, flags Flags }
 END
 """
 LOOSE = """Loose DEFINITIONS AUTOMATIC TAGS ::= BEGIN
@@ -43,6 +49,7 @@ END
 FLAGS = "Flags: exact, canonical\n"
 ALONE = "Alone: exact, canonical\n"
 REPORT = "Report: exact, canonical\n"
+BOX = "Box: exact, canonical\n"
 KNOWN = "Known: exact, canonical\n"
 CODE = "Code: accepts more, canonical\n"
 # What is said of what is wrong in them.
@@ -58,9 +65,22 @@ IS_UNKNOWN = """unknown.asn1:4:11: this name is neither assigned nor imported
         first Missing }
               ^
 """
+IS_NO_LIST = "crates/some/exports: it isn't a list of types\n"
+EXPORTS = """Second Alone alone Alone U16 canonical
+Second Flags flags Flags U16 canonical
+First Report report Report U16 canonical
+"""
+IS_MISSING = "Missing: no type has this name\n"
 # What is said of a copy of a crate that differs.
-IS_OTHER = "copies/pkcs10/src/attributes.rt: it differs from what the module gives\n"
-MODULES = {"first": FIRST, "second": SECOND, "loose": LOOSE, "malformed": MALFORMED, "unknown": UNKNOWN}
+IS_OTHER = """copies/pkcs10/src/attributes.rt:41:40: the modules give <Notated as Notation>::has_tag(tag)
+            <Notated as Notation>::has_tag(other)
+                                           ^
+"""
+IS_MORE = """copies/pkcs10/src/attributes.rt:75:1: the modules give nothing more
+    fn more() {}
+    ^
+"""
+MODULES = {"first": FIRST, "second": SECOND, "third": THIRD, "loose": LOOSE, "malformed": MALFORMED, "unknown": UNKNOWN}
 
 
 def run(folder, *words, given=""):
@@ -80,19 +100,29 @@ def ends(folder):
     yield "standard input", run(folder, "--list", "-", given=SECOND), (0, f"{FLAGS}{ALONE}", "")
     yield "a type that accepts more", run(folder, "--list", "loose.asn1"), (0, f"{KNOWN}{CODE}", "")
     yield "it with --strict", run(folder, "--list", "--strict", "loose.asn1"), (1, f"{KNOWN}{CODE}", IS_LOOSE)
+    yield "another type", run(folder, "--list", "--strict", "--type", "Known", "loose.asn1"), (0, KNOWN, "")
     yield "what isn't ASN.1", run(folder, "--list", "malformed.asn1"), (1, "", IS_MALFORMED)
     yield "a name that isn't defined", run(folder, "--list", "unknown.asn1"), (1, KNOWN, IS_UNKNOWN)
+    yield "a type that isn't there", run(folder, "--list", "--type", "Missing", "first.asn1", "second.asn1"), (1, "", IS_MISSING)
     yield "a file that isn't there", run(folder, "--list", "missing.asn1")[0], 3
     yield "no file", run(folder, "--list")[0], 2
+    yield "two tasks", run(folder, "--list", "--check", "first.asn1")[0], 2
 
 
 def crates(folder):
     """The crates that are written: a name, what is there, and what has to be."""
     out = folder / "crates"
     yield "a crate", run(folder, "--crate", "all", "first.asn1", "second.asn1")[0], 0
-    yield "its files", written(out / "all"), ["src/alone.rt", "src/flags.rt", "src/lib.rt", "src/report.rt"]
+    yield "its files", written(out / "all"), ["exports", "src/alone.rt", "src/flags.rt", "src/lib.rt", "src/report.rt"]
     yield "a type and those that it names", run(folder, "--crate", "some", "--type", "Report", "first.asn1", "second.asn1")[0], 0
-    yield "their files", written(out / "some"), ["src/flags.rt", "src/lib.rt", "src/report.rt"]
+    yield "their files", written(out / "some"), ["exports", "src/flags.rt", "src/lib.rt", "src/report.rt"]
+    yield "the types that are exported", (out / "all/exports").read_text(), EXPORTS
+    yield "types of another crate", run(folder, "--list", "--use", "all", "third.asn1"), (0, BOX, "")
+    yield "no such crate", run(folder, "--list", "--use", "none", "third.asn1")[0], 3
+    (out / "some/exports").write_text("First Report\n")
+    yield "a list that is malformed", run(folder, "--list", "--use", "some", "third.asn1"), (1, "", IS_NO_LIST)
+    yield "what is rejected with --strict", run(folder, "--crate", "none", "--strict", "loose.asn1")[0], 1
+    yield "no file of it", written(out / "none"), []
 
 
 def comparisons(folder):
@@ -100,17 +130,19 @@ def comparisons(folder):
     words = ("--check", "--out", "copies", "--crate", "pkcs10", "--use", "x509", REQUESTS)
     copy = folder / "copies/pkcs10"
     shutil.copytree(REQUEST_TYPES, copy, ignore=shutil.ignore_patterns("out"))
+    (folder / "copies/x509").mkdir()
+    shutil.copy(CERTIFICATE_TYPES, folder / "copies/x509")
     yield "the same", run(folder, *words), (0, "", "")
     source = copy / "src/attributes.rt"
     text = source.read_text()
     source.write_text(text.replace("::has_tag(tag)", "::has_tag(other)"))
     yield "another word", run(folder, *words), (1, "", IS_OTHER)
     source.write_text(text + "\nfn more() {}\n")
-    yield "a function more", run(folder, *words), (1, "", IS_OTHER)
+    yield "a function more", run(folder, *words), (1, "", IS_MORE)
     source.write_text(text.replace("\n    ", "\n\t"))
     yield "another layout", run(folder, *words), (0, "", "")
     source.unlink()
-    yield "a file less", run(folder, *words)[0], 3
+    yield "a file less", run(folder, *words)[0], 1
 
 
 def main(passed, failed):

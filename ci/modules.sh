@@ -2,6 +2,7 @@
 # asn1compile: the crates of modules/ are what it writes for their modules, but for layout, and it ends as docs/MODULES.md says.
 #
 #   sh ci/modules.sh
+#   sh ci/modules.sh kerberos     writes a crate for the module of Kerberos and one that tests it, and proves both, which the gate doesn't
 #
 # What runs is asn1compile as LLVM builds it, which `rt ci` leaves there; it is proved and built first where it isn't there or a source is newer.
 # The last line is `modules: N passed, N failed`.
@@ -11,6 +12,15 @@ work=$(mktemp -d)
 trap 'rm -rf "$work"' EXIT
 . ci/common.sh
 build asn1compile
+if [ "${1:-}" = kerberos ]; then
+    mkdir "$work/repository"
+    cp -r HANDLES crates "$work/repository"
+    "$program" --tests --out "$work/repository/crates" --crate kerberos modules/KerberosV5Spec2.asn1 > "$work/lines"
+    cat crates.txt "$work/lines" > "$work/repository/crates.txt"
+    (cd "$work/repository/crates/kerberos" && rt fmt && rt check)
+    (cd "$work/repository/crates/kerberos_tests" && rt fmt && rt test)
+    exit
+fi
 passed=0
 failed=0
 # compare CRATE MODULE OPTIONS..     further modules are named among the options
@@ -26,4 +36,9 @@ compare() {
     fi
 }
 compare pkcs10 PKCS-10.asn1 --use x509
+compare rsa_keys PKCS-1.asn1
+compare ec_keys ECPrivateKey.asn1
+compare pkix_implicit PKIX1Implicit88.asn1 --use x509
+compare ocsp OCSP.asn1 --use x509 --use pkix_implicit
+compare tsp TSP.asn1 --use x509 --use pkix_implicit
 python3 ci/modules.py "$passed" "$failed"

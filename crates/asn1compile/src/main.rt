@@ -10,28 +10,30 @@
 //! | Module | Holds |
 //! |---|---|
 //! | `options` | the options of the command line |
-//! | `modules` | the files of the modules, and what is wrong in them |
-//! | `location` | lines and columns |
+//! | `exports` | the types that crates export to modules |
+//! | `type_reports` | what is printed of types: where they accept more than their modules, and which aren't there |
 //! | `output` | the files of a crate: they are written, or compared with those that are there |
 #![tactic(auto)]
 
-mod location;
-mod modules;
+mod exports;
 mod options;
 mod output;
+mod type_reports;
 
 use asn1_source::{
-    CrateSource, ModuleSource, SourceFile, crate_line, known_names, known_types, list_of, names_of,
-    reached, source_of, sources_of,
+    CrateSource, Export, ModuleSource, SourceFile, crate_line, known_names, known_types, list_of,
+    mutants_of, names_of, reached, source_of, sources_of, tests_of,
 };
-use asn1_types::model::{Definition, KnownType, Resolved};
+use asn1_types::model::{KnownType, Resolved};
 use asn1_types::resolve;
-use modules::{ModuleFile, Modules, parse_files, read_files, report_looser, report_problems};
+use exports::{ExportsFile, parse_exports, read_exports};
+use module_files::{ModuleFile, Modules, parse_files, read_files, report_problems};
 use options::{Options, options_of};
 use output::{check_files, write_files};
 use program_io::{ProgramError, arguments, explain, report, write_output};
 use std::alloc::{AllocError, Global};
 use std::process::ExitCode;
+use type_reports::{report_looser, report_unknown};
 
 // The exit status after an I/O error, or if memory ran out.
 const IO_ERROR: u8 = 3;
@@ -71,7 +73,31 @@ fn finish(
     }
     let mut line = crate_line(rt.alloc(), source, files);
     line.say("\n");
-    write_text(rt, line.as_slice())
+    let status = write_text(rt, line.as_slice());
+    if status == 0 && options.tests {
+        return write_tests(rt, options, source);
+    }
+    status
+}
+
+// Writes the crate of tests and the edits of a crate, and returns the status.
+fn write_tests(rt: &HostRuntime, options: &Options<'_>, source: &CrateSource<'_, '_>) -> u8 {
+    let alloc = rt.alloc();
+    let krate = options.krate();
+    let (Ok(tests), Ok(mutants), Ok(name)) = (
+        tests_of(alloc, source),
+        mutants_of(alloc, source),
+        format!(in alloc; "{krate}_tests"),
+    ) else {
+        return ProgramError::Memory.report(rt);
+    };
+    let edits = write_files(rt, options.out(), krate, mutants.as_slice());
+    let status = edits.max(write_files(rt, options.out(), name.as_str(), tests.as_slice()));
+    match format!(in alloc; "{name}: yasna yasna_notation {krate}\n") {
+        Ok(line) if status == 0 => write_text(rt, line.as_bytes()),
+        Ok(_) => status,
+        Err(_) => ProgramError::Memory.report(rt),
+    }
 }
 
 // Writes a text to standard output, and returns the status.
@@ -94,18 +120,53 @@ fn emit(rt: &HostRuntime, options: &Options<'_>, source: &CrateSource<'_, '_>) -
     }
 }
 
-// The crate of definitions. Else memory ran out.
+// Prints where wanted types accept more than the modules, and returns the status.
+fn judge(
+    rt: &HostRuntime,
+    files: &[ModuleFile<'_>],
+    modules: &Modules<'_>,
+    source: &CrateSource<'_, '_>,
+) -> u8 {
+    let mut status = 0;
+    for (definition, is_wanted) in source.definitions.iter().zip(source.wanted.iter()) {
+        if *is_wanted {
+            let one = report_looser(rt, files, modules, definition.looser.as_slice());
+            status = one.max(status);
+        }
+    }
+    status
+}
+
+// Prints what keeps a crate from being written: a type that isn't there, and with `--strict` one that accepts more than its module.
+// Returns the status.
+fn obstacles(
+    rt: &HostRuntime,
+    options: &Options<'_>,
+    files: &[ModuleFile<'_>],
+    modules: &Modules<'_>,
+    source: &CrateSource<'_, '_>,
+) -> u8 {
+    let types = options.types().unwrap_or(&[]);
+    let unknown = report_unknown(rt, types, source.definitions);
+    if options.strict {
+        unknown.max(judge(rt, files, modules, source))
+    } else {
+        unknown
+    }
+}
+
+// The crate of definitions, or its list. Else memory ran out.
 fn compile<'a>(
     rt: &HostRuntime,
     options: &Options<'_>,
     files: &'a [ModuleFile<'a>],
     modules: &'a Modules<'a>,
+    exports: &[Export<'_>],
     resolved: &Resolved<'a>,
 ) -> Result<u8, AllocError> {
     let definitions = resolved.definitions.as_slice();
     let alloc = rt.alloc();
-    let uses = options.uses().unwrap_or(&[]);
-    let imported = known_names(alloc, uses)?;
+    let imported = known_names(alloc, exports)?;
     let names = names_of(alloc, definitions, imported)?;
     let wanted = reached(alloc, definitions, options.types())?;
     let sources = module_sources(alloc, files, modules)?;
@@ -113,28 +174,16 @@ fn compile<'a>(
         options.krate().as_bytes(),
         sources.as_slice(),
         definitions,
+        resolved.tag_sets.as_slice(),
         &names,
         wanted.as_slice(),
         resolved.constants.as_slice(),
     );
-    Ok(emit(rt, options, &source))
-}
-
-// Prints what is looser than the modules, and returns the status.
-fn judge(
-    rt: &HostRuntime,
-    files: &[ModuleFile<'_>],
-    modules: &Modules<'_>,
-    definitions: &[Definition<'_>],
-) -> u8 {
-    let mut status = 0;
-    for definition in definitions {
-        let one = report_looser(rt, files, modules, definition.looser.as_slice());
-        if one > status {
-            status = one;
-        }
+    let status = obstacles(rt, options, files, modules, &source);
+    if status != 0 && !options.list {
+        return Ok(status);
     }
-    status
+    Ok(status.max(emit(rt, options, &source)))
 }
 
 // Compiles resolved modules, and returns the status.
@@ -143,43 +192,69 @@ fn run_resolved<'a>(
     options: &Options<'_>,
     files: &'a [ModuleFile<'a>],
     modules: &'a Modules<'a>,
+    exports: &[Export<'_>],
     resolved: &Resolved<'a>,
 ) -> u8 {
-    let definitions = resolved.definitions.as_slice();
-    let mut rejected = report_problems(rt, files, modules, resolved.problems.as_slice());
-    if options.strict {
-        rejected = rejected.max(judge(rt, files, modules, definitions));
-    }
-    match compile(rt, options, files, modules, resolved) {
+    let rejected = report_problems(rt, files, modules, resolved.problems.as_slice());
+    match compile(rt, options, files, modules, exports, resolved) {
         Ok(status) => rejected.max(status),
         Err(_) => ProgramError::Memory.report(rt),
     }
 }
 
-// Resolves modules, compiles them, and returns the status.
+// Resolves modules over the types that they import of other crates, compiles them, and returns the status.
 fn run_known<'a>(
     rt: &HostRuntime,
     options: &Options<'_>,
     files: &'a [ModuleFile<'a>],
     modules: &'a Modules<'a>,
+    exports: &'a [Export<'a>],
     known: &'a [KnownType<'a>],
 ) -> u8 {
     match resolve(rt.alloc(), modules.modules.as_slice(), known) {
-        Ok(resolved) => run_resolved(rt, options, files, modules, &resolved),
+        Ok(resolved) => run_resolved(rt, options, files, modules, exports, &resolved),
         Err(_) => ProgramError::Memory.report(rt),
     }
 }
 
-// Compiles modules over the types of the crates that are used, which are lent until the program ends, and returns the status.
+// Compiles modules over these types of other crates, which are lent until the program ends, and returns the status.
+fn run_exports<'a>(
+    rt: &HostRuntime,
+    options: &Options<'_>,
+    files: &'a [ModuleFile<'a>],
+    modules: &'a Modules<'a>,
+    exports: &'a [Export<'a>],
+) -> u8 {
+    match known_types(rt.alloc(), exports) {
+        Ok(known) => run_known(rt, options, files, modules, exports, known.leak()),
+        Err(_) => ProgramError::Memory.report(rt),
+    }
+}
+
+// Compiles modules over the types that files of other crates list, which are lent until the program ends, and returns the status.
+fn run_listed<'a>(
+    rt: &HostRuntime,
+    options: &Options<'_>,
+    files: &'a [ModuleFile<'a>],
+    modules: &'a Modules<'a>,
+    listed: &'a [ExportsFile],
+) -> u8 {
+    match parse_exports(rt, listed, modules.modules.as_slice()) {
+        Ok(exports) => run_exports(rt, options, files, modules, exports.leak()),
+        Err(status) => status,
+    }
+}
+
+// Compiles parsed modules, and returns the status.
 fn run_parsed<'a>(
     rt: &HostRuntime,
     options: &Options<'_>,
     files: &'a [ModuleFile<'a>],
     modules: &'a Modules<'a>,
 ) -> u8 {
-    match known_types(rt.alloc(), options.uses().unwrap_or(&[])) {
-        Ok(known) => run_known(rt, options, files, modules, known.leak()),
-        Err(_) => ProgramError::Memory.report(rt),
+    match read_exports(rt, options.out(), options.uses().unwrap_or(&[])) {
+        Ok(listed) => run_listed(rt, options, files, modules, listed.leak()),
+        Err(status) => status,
     }
 }
 

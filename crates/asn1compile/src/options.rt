@@ -13,6 +13,8 @@ pub struct Options<'a> {
     pub check: bool,
     /// Whether a type is rejected that accepts more than its module.
     pub strict: bool,
+    /// Whether a crate of tests is written too.
+    pub tests: bool,
     matches: ArgMatches<'a>,
 }
 
@@ -46,6 +48,12 @@ impl<'a> Options<'a> {
 const ABOUT: &str = "Writes a crate for the types of ASN.1 modules.
 Each type is a notation of `yasna_notation`, and `rt check` proves what it accepts.";
 
+const CHECK_HELP: &str = "Compare with the crate that is there, and write nothing";
+
+const TESTS_HELP: &str = "Write a crate of tests too, and edits that the prover has to reject";
+
+const STRICT_HELP: &str = "Reject a type that accepts more than its module";
+
 fn flag<'a>(alloc: Global, name: &'static str, help: &'static str) -> Arg<'a> {
     Arg::new(alloc, name)
         .long(name)
@@ -53,8 +61,56 @@ fn flag<'a>(alloc: Global, name: &'static str, help: &'static str) -> Arg<'a> {
         .help(help)
 }
 
-fn value<'a>(alloc: Global, name: &'static str, action: ArgAction, help: &'static str) -> Arg<'a> {
-    Arg::new(alloc, name).long(name).action(action).help(help)
+fn list_flag<'a>(alloc: Global, others: &'static [&'static str]) -> Result<Arg<'a>, AllocError> {
+    flag(alloc, "list", "List the types, and write nothing").conflicts_with_all(others)
+}
+
+fn tests_flag<'a>(alloc: Global, others: &'static [&'static str]) -> Result<Arg<'a>, AllocError> {
+    flag(alloc, "tests", TESTS_HELP).conflicts_with_all(others)
+}
+
+// An option with a value.
+struct ValueOption {
+    name: &'static str,
+    // What the help calls the value.
+    value: &'static str,
+    action: ArgAction,
+    help: &'static str,
+}
+
+static VALUE_OPTIONS: [ValueOption; 4] = [
+    ValueOption {
+        name: "crate",
+        value: "NAME",
+        action: ArgAction::Set,
+        help: "The name of the crate [default: module_types]",
+    },
+    ValueOption {
+        name: "out",
+        value: "FOLDER",
+        action: ArgAction::Set,
+        help: "The folder of crates [default: crates]",
+    },
+    ValueOption {
+        name: "type",
+        value: "TYPE",
+        action: ArgAction::Append,
+        help: "Write only this type and those that it names",
+    },
+    ValueOption {
+        name: "use",
+        value: "CRATE",
+        action: ArgAction::Append,
+        help: "Take types that modules import from this crate",
+    },
+];
+
+fn value_arg<'a>(alloc: Global, option: &ValueOption) -> Arg<'a> {
+    Arg::new(alloc, option.name)
+        .long(option.name)
+        .value_name(option.value)
+        .action(option.action)
+        .help(option.help)
 }
 
 fn files_arg<'a>(alloc: Global) -> Arg<'a> {
@@ -65,49 +121,31 @@ fn files_arg<'a>(alloc: Global) -> Arg<'a> {
         .help("The files of the modules")
 }
 
+fn push_values(alloc: Global, args: &mut Vec<Arg<'_>>) -> Result<(), AllocError> {
+    for option in &VALUE_OPTIONS {
+        args.push(value_arg(alloc, option))?;
+    }
+    Ok(())
+}
+
+fn all_args<'a>(alloc: Global) -> Result<Vec<Arg<'a>>, AllocError> {
+    let mut args = Vec::new(alloc);
+    push_values(alloc, &mut args)?;
+    args.push(list_flag(alloc, &["check"])?)?;
+    args.push(flag(alloc, "check", CHECK_HELP))?;
+    args.push(tests_flag(alloc, &["list", "check"])?)?;
+    args.push(flag(alloc, "strict", STRICT_HELP))?;
+    args.push(files_arg(alloc))?;
+    Ok(args)
+}
+
 fn command<'a>(alloc: Global) -> Result<Command<'a>, AllocError> {
-    let krate = value(alloc, "crate", ArgAction::Set, "The name of the crate");
-    let out = value(
-        alloc,
-        "out",
-        ArgAction::Set,
-        "The folder of crates [default: crates]",
-    );
-    let types = value(
-        alloc,
-        "type",
-        ArgAction::Append,
-        "Keep this type and those that it names",
-    );
-    let uses = value(
-        alloc,
-        "use",
-        ArgAction::Append,
-        "Import types of this crate",
-    );
-    let list = flag(alloc, "list", "List the types, and write nothing");
-    let check = flag(
-        alloc,
-        "check",
-        "Compare with the crate that is there, and write nothing",
-    );
-    let strict = flag(
-        alloc,
-        "strict",
-        "Reject a type that accepts more than its module",
-    );
+    let args = all_args(alloc)?;
     Command::new(alloc, "asn1compile")
         .about(ABOUT)
         .version(VERSION)
         .bin_name("asn1compile")?
-        .arg(krate)?
-        .arg(out)?
-        .arg(types)?
-        .arg(uses)?
-        .arg(list)?
-        .arg(check)?
-        .arg(strict)?
-        .arg(files_arg(alloc))
+        .args(args)
 }
 
 /// The options of a command line, which begins with the program's name.
@@ -117,10 +155,12 @@ pub fn options_of<'a>(alloc: Global, words: &'a [String]) -> Result<Options<'a>,
     let list = matches.get_flag("list");
     let check = matches.get_flag("check");
     let strict = matches.get_flag("strict");
+    let tests = matches.get_flag("tests");
     Ok(Options {
         list,
         check,
         strict,
+        tests,
         matches,
     })
 }
