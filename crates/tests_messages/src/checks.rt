@@ -7,6 +7,8 @@ use yasna::{
     DERExact, PrependBuffer, construct_cer, construct_der, decode_ber, decode_ber_general,
     decode_cer, decode_der, encode_cer, encode_der, one_der_encoding, one_encoding,
 };
+use yasna_notation::{Encoded, Message};
+use yasna_notation_validity::{Checked, IsValid};
 
 /// What is so of a row's bytes.
 #[derive(Clone, Copy)]
@@ -205,6 +207,42 @@ pub fn becomes<T: BERDecodable + DEREncodable + DERCanonical>(
                 && decode_der::<T>(alloc, bytes).is_err()
         }
         Err(_) => false,
+    }
+}
+
+// The DER encoding of a message that BER reads from these bytes, or none if it can't be written.
+fn valid_encoding<T: Message + Checked>(
+    alloc: Global,
+    bytes: &[u8],
+) -> ASN1Result<Option<Vec<u8>>> {
+    let read: Encoded<T> = decode_ber(alloc, bytes)?;
+    let message = read.value;
+    if !message.is_valid() {
+        return Ok(None);
+    }
+    let encoded = Encoded { value: message };
+    Ok(Some(encode_der(alloc, &encoded)?))
+}
+
+// Whether DER rejects these bytes, BER reads them, and the message's DER encoding is that of the text.
+fn is_made_der<T: Message + Checked>(alloc: Global, bytes: &[u8], encoding: &str) -> bool {
+    let Ok(encoding) = bytes_of(alloc, encoding) else {
+        return false;
+    };
+    match valid_encoding::<T>(alloc, bytes) {
+        Ok(Some(written)) => {
+            written.as_slice() == encoding.as_slice()
+                && decode_der::<Encoded<T>>(alloc, bytes).is_err()
+        }
+        _ => false,
+    }
+}
+
+/// Whether the claim is so of these bytes, where it is of no fields, of a message that may keep parts as they came.
+pub fn holds_of_message<T: Message + Checked>(alloc: Global, bytes: &[u8], claim: Claim) -> bool {
+    match claim {
+        Claim::Becomes(encoding) => is_made_der::<T>(alloc, bytes, encoding),
+        _ => holds::<Encoded<T>>(alloc, bytes, claim),
     }
 }
 

@@ -1,19 +1,36 @@
 //! What a row is, and by what its kind is checked.
 
 use crate::certificates::is_signed;
-use crate::checks::{Claim, becomes, bytes_of, holds, holds_or_says};
+use crate::checks::{Claim, becomes, bytes_of, holds, holds_of_message, holds_or_says};
+use crate::extensions::{Extension, is_extension};
 use crate::keys::{is_content, is_raw};
 use crate::messages::{Part, is_part};
 use crate::named_bits::{is_key_usage, is_reason_flags};
 use crate::parts::is_in_a_sequence;
 use crate::texts::Texts;
 use cms::{ContentInfo, EnvelopedData, SignedData};
+use ec_keys::EcPrivateKey;
 use ldap::{Filter, LdapMessage};
+use ocsp::{BasicOcspResponse, OcspRequest, OcspResponse};
 use pkcs8::{OneAsymmetricKey, PrivateKeyInfo};
+use pkcs10::CertificationRequest;
+use rsa_keys::{RsaPrivateKey, RsaPublicKey};
 use snmp::{v1, v2c};
 use std::alloc::Global;
+use tsp::{TimeStampReq, TimeStampResp, TstInfo};
 use x509::{Certificate, CertificateList};
 use yasna_notation::Encoded;
+
+/// A message of OCSP or of the time-stamp protocol.
+#[derive(Clone, Copy)]
+pub enum OnlineMessage {
+    OcspRequest,
+    OcspResponse,
+    BasicOcspResponse,
+    TimeStampReq,
+    TimeStampResp,
+    TstInfo,
+}
 
 /// What a row's bytes are, or are not.
 #[derive(Clone, Copy)]
@@ -26,6 +43,10 @@ pub enum Kind {
     SignedList,
     PrivateKeyInfo,
     OneAsymmetricKey,
+    CertificationRequest,
+    RsaPublicKey,
+    RsaPrivateKey,
+    EcPrivateKey,
     ContentInfo,
     /// The SignedData that ends a ContentInfo.
     SignedData,
@@ -41,6 +62,10 @@ pub enum Kind {
     LdapFilter,
     SnmpV1,
     SnmpV2c,
+    /// A message of OCSP or of the time-stamp protocol.
+    Online(OnlineMessage),
+    /// The contents of an extension.
+    Extension(Extension),
     KeyUsage,
     ReasonFlags,
     /// A part of a message.
@@ -67,6 +92,13 @@ fn is_so(alloc: Global, kind: Kind, bytes: &[u8], claim: Claim) -> bool {
         Kind::SignedList => is_signed(alloc, bytes, claim, true),
         Kind::PrivateKeyInfo => holds::<Encoded<PrivateKeyInfo>>(alloc, bytes, claim),
         Kind::OneAsymmetricKey => holds_or_says::<Encoded<OneAsymmetricKey>>(alloc, bytes, claim),
+        Kind::CertificationRequest => holds::<Encoded<CertificationRequest>>(alloc, bytes, claim),
+        Kind::RsaPublicKey => holds::<Encoded<RsaPublicKey>>(alloc, bytes, claim),
+        Kind::RsaPrivateKey => match claim {
+            Claim::Becomes(encoding) => becomes::<Encoded<RsaPrivateKey>>(alloc, bytes, encoding),
+            _ => holds::<Encoded<RsaPrivateKey>>(alloc, bytes, claim),
+        },
+        Kind::EcPrivateKey => holds::<Encoded<EcPrivateKey>>(alloc, bytes, claim),
         Kind::ContentInfo => holds_or_says::<Encoded<ContentInfo>>(alloc, bytes, claim),
         Kind::SignedData => holds::<Encoded<SignedData>>(alloc, content_of(bytes), claim),
         Kind::EnvelopedData => holds::<Encoded<EnvelopedData>>(alloc, content_of(bytes), claim),
@@ -85,11 +117,27 @@ fn is_so(alloc: Global, kind: Kind, bytes: &[u8], claim: Claim) -> bool {
             ),
             _ => holds_or_says::<Encoded<v2c::SnmpMessage>>(alloc, bytes, claim),
         },
+        Kind::Online(message) => is_online(alloc, message, bytes, claim),
+        Kind::Extension(extension) => is_extension(alloc, extension, bytes, claim),
         Kind::KeyUsage => is_key_usage(alloc, bytes, claim),
         Kind::ReasonFlags => is_reason_flags(alloc, bytes, claim),
         Kind::Part(part) => is_part(alloc, part, bytes, claim),
         Kind::Pairs => is_in_a_sequence(alloc, bytes, claim),
         Kind::Texts => holds::<Encoded<Texts>>(alloc, bytes, claim),
+    }
+}
+
+// Whether the claim is so of these bytes.
+fn is_online(alloc: Global, message: OnlineMessage, bytes: &[u8], claim: Claim) -> bool {
+    match message {
+        OnlineMessage::OcspRequest => holds_of_message::<OcspRequest>(alloc, bytes, claim),
+        OnlineMessage::OcspResponse => holds_of_message::<OcspResponse>(alloc, bytes, claim),
+        OnlineMessage::BasicOcspResponse => holds_of_message::<BasicOcspResponse>(
+            alloc, bytes, claim,
+        ),
+        OnlineMessage::TimeStampReq => holds_of_message::<TimeStampReq>(alloc, bytes, claim),
+        OnlineMessage::TimeStampResp => holds_of_message::<TimeStampResp>(alloc, bytes, claim),
+        OnlineMessage::TstInfo => holds_of_message::<TstInfo>(alloc, bytes, claim),
     }
 }
 

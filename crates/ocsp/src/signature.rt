@@ -1,0 +1,127 @@
+//! `Signature` of the module OCSP.
+//!
+//! ```text
+//! Signature ::= SEQUENCE {
+//!     signatureAlgorithm  AlgorithmIdentifier,
+//!     signature           BIT STRING,
+//!     certs               [0] SEQUENCE OF Certificate OPTIONAL }
+//! ```
+ghost use Rattle.std.specs.Prelude.{◌≡◌, ◌↔◌, IsTrue, refl};
+ghost use Rattle.std.proofs.Common.{arith};
+ghost use Rattle.yasna_notation.specs.Laws.{element_non_empty, represented_lawful};
+ghost use Rattle.yasna_notation.specs.Making.{in_explicit, in_sequence, in_sequence_of, optional_part, part};
+ghost use Rattle.yasna_notation.specs.Notation.{represented_by};
+ghost use Rattle.yasna_notation.specs.Parts.{no_parts};
+ghost use Rattle.yasna_notation.specs.contracts.strings.BitStringNotation.TheImpl.Laws.{lawful-law as bits_law};
+ghost use Rattle.x509.specs.contracts.algorithm.AlgorithmIdentifierNotation.TheImpl.Laws.{lawful-law as x509_algorithm_law};
+ghost use Rattle.x509.specs.contracts.certificate.CertificateNotation.TheImpl.Laws.{lawful-law as x509_certificate_law};
+
+use x509::{AlgorithmIdentifier, Certificate};
+use yasna::{ASN1Result, BERMode, BERReader, DERWriter, PrependBuffer, Tag};
+use yasna_notation::{
+    BitString, Context, Explicit, Message, Notation, Optional, Represents, Sequence, SequenceOf,
+    read_as,
+};
+use yasna_notation_validity::{Checked, accepts_fields};
+
+type Parts = (
+    AlgorithmIdentifier,
+    (
+        BitString,
+        (Optional<Explicit<Context<0>, SequenceOf<Certificate>>>, ()),
+    ),
+);
+
+type Fields = (
+    AlgorithmIdentifier,
+    ((Vec<u8>, usize), (Option<Vec<Certificate>>, ())),
+);
+
+type Notated = Sequence<Parts>;
+
+/// `Signature`.
+#[derive(Drop)]
+pub struct Signature {
+    pub signature_algorithm: AlgorithmIdentifier,
+    pub signature: (Vec<u8>, usize),
+    pub certs: Option<Vec<Certificate>>,
+}
+
+impl Represents<Fields> for Signature {
+    ghost value_of = { λ v. (v.signature_algorithm, (v.signature, (v.certs, tt))) };
+
+    fn from_value((signature_algorithm, (signature, (certs, ()))): Fields) -> Signature {
+        Signature {
+            signature_algorithm,
+            signature,
+            certs,
+        }
+    }
+}
+
+impl Notation for Signature {
+    type Value = Signature;
+
+    type Inner = ();
+
+    ghost means = { represented_by ⟦<Signature as Represents<Fields>>⟧.value_of ⟦<Notated as Notation>⟧.means };
+
+    fn has_tag(tag: Tag) -> bool {
+        <Notated as Notation>::has_tag(tag)
+    }
+
+    fn read(reader: BERReader) -> ASN1Result<Signature> {
+        read_as::<Notated, Signature>(reader)
+    }
+
+    fn write(value: &Signature, writer: DERWriter<'_>) -> ASN1Result<()> {
+        Sequence::<Parts>::write_fields(
+            (
+                &value.signature_algorithm,
+                (&value.signature, (&value.certs, ())),
+            ),
+            writer,
+        )
+    }
+
+    fn prepend(value: &Signature, under: Option<Tag>, out: &mut PrependBuffer) -> ASN1Result<()> {
+        Sequence::<Parts>::prepend_fields(
+            (
+                &value.signature_algorithm,
+                (&value.signature, (&value.certs, ())),
+            ),
+            under,
+            out,
+        )
+    }
+
+    fn encoded_len(value: &Signature, under: Option<Tag>, mode: BERMode) -> Option<usize> {
+        Sequence::<Parts>::fields_len(
+            (
+                &value.signature_algorithm,
+                (&value.signature, (&value.certs, ())),
+            ),
+            under,
+            mode,
+        )
+    }
+
+    ghost lawful = { λ _. represented_lawful ⟦<Signature as Represents<Fields>>⟧.value_of (in_sequence
+        (part (x509_algorithm_law refl).own (part (bits_law refl).own (optional_part refl (in_explicit 0 (omega arith)
+        (in_sequence_of (x509_certificate_law refl).own).own).own no_parts)))) };
+
+    ghost non_empty = { λ u m v. element_non_empty _ _ _ _ };
+}
+
+impl Message for Signature {
+    ghost is_unambiguous = { refl };
+}
+
+impl Checked for Signature {
+    fn accepts(value: &Signature) -> bool {
+        accepts_fields::<Parts, _>((
+            &value.signature_algorithm,
+            (&value.signature, (&value.certs, ())),
+        ))
+    }
+}

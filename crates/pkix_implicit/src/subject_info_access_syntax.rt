@@ -1,0 +1,82 @@
+//! `SubjectInfoAccessSyntax` of the module PKIX1Implicit88.
+//!
+//! ```text
+//! SubjectInfoAccessSyntax ::= SEQUENCE SIZE (1..MAX) OF AccessDescription
+//! ```
+ghost use Rattle.std.specs.Prelude.{◌≡◌, ◌↔◌, IsTrue, refl};
+ghost use Rattle.yasna_notation.specs.Laws.{element_non_empty, represented_lawful};
+ghost use Rattle.yasna_notation.specs.Making.{in_sequence_of, not_empty};
+ghost use Rattle.yasna_notation.specs.Notation.{represented_by};
+ghost use Rattle.pkix_implicit.specs.contracts.access_description.AccessDescriptionNotation.TheImpl.Laws.{lawful-law as access_description_law};
+
+use crate::access_description::AccessDescription;
+use yasna::{ASN1Result, BERMode, BERReader, DERWriter, PrependBuffer, Tag};
+use yasna_notation::{Bounded, Message, NotEmpty, Notation, Represents, SequenceOf, read_as};
+use yasna_notation_validity::Checked;
+
+type Notated = Bounded<SequenceOf<AccessDescription>, NotEmpty>;
+
+/// `SubjectInfoAccessSyntax`.
+#[derive(Drop)]
+pub struct SubjectInfoAccessSyntax {
+    pub items: Vec<AccessDescription>,
+}
+
+impl Represents<Vec<AccessDescription>> for SubjectInfoAccessSyntax {
+    ghost value_of = { λ v. v.items };
+
+    fn from_value(items: Vec<AccessDescription>) -> SubjectInfoAccessSyntax {
+        SubjectInfoAccessSyntax { items }
+    }
+}
+
+impl Notation for SubjectInfoAccessSyntax {
+    type Value = SubjectInfoAccessSyntax;
+
+    type Inner = ();
+
+    ghost means = { represented_by ⟦<SubjectInfoAccessSyntax as Represents<Vec<AccessDescription>>>⟧.value_of ⟦<Notated as Notation>⟧.means };
+
+    fn has_tag(tag: Tag) -> bool {
+        <Notated as Notation>::has_tag(tag)
+    }
+
+    fn read(reader: BERReader) -> ASN1Result<SubjectInfoAccessSyntax> {
+        read_as::<Notated, SubjectInfoAccessSyntax>(reader)
+    }
+
+    fn write(value: &SubjectInfoAccessSyntax, writer: DERWriter<'_>) -> ASN1Result<()> {
+        <Notated as Notation>::write(&value.items, writer)
+    }
+
+    fn prepend(
+        value: &SubjectInfoAccessSyntax,
+        under: Option<Tag>,
+        out: &mut PrependBuffer,
+    ) -> ASN1Result<()> {
+        <Notated as Notation>::prepend(&value.items, under, out)
+    }
+
+    fn encoded_len(
+        value: &SubjectInfoAccessSyntax,
+        under: Option<Tag>,
+        mode: BERMode,
+    ) -> Option<usize> {
+        <Notated as Notation>::encoded_len(&value.items, under, mode)
+    }
+
+    ghost lawful = { λ _. represented_lawful ⟦<SubjectInfoAccessSyntax as Represents<Vec<AccessDescription>>>⟧.value_of (not_empty (in_sequence_of
+        (access_description_law refl).own)) };
+
+    ghost non_empty = { λ u m v. element_non_empty _ _ _ _ };
+}
+
+impl Message for SubjectInfoAccessSyntax {
+    ghost is_unambiguous = { refl };
+}
+
+impl Checked for SubjectInfoAccessSyntax {
+    fn accepts(value: &SubjectInfoAccessSyntax) -> bool {
+        <Notated as Checked>::accepts(&value.items)
+    }
+}
