@@ -1,6 +1,7 @@
 -- What bytes are as a message of a type, and what is written of them.
 use Rattle.std.specs.Global.{Global}
-use Rattle.std.specs.Prelude.{◌≡◌, ℕ, List, Result, Ok, Err, Vec}
+use Rattle.std.specs.Prelude.{◌≡◌, ◌≤◌, ℕ, List, Result, Ok, Err, Vec}
+use Rattle.asn1_input.specs.Pieces.{ArePieces, HasOther}
 use Rattle.yasna.specs.Words.{Grammar, Encoding, ASN1Error, BERMode, Der, kind_of, max_depth, OutOfMemory}
 
 -- s encodes no value in the mode m
@@ -15,6 +16,11 @@ EncodesSome {A} B m s = (v : A) × B m max_depth v s
 abbrev pub Checked : {A : Type 0} → Grammar A → BERMode → List ℕ → Result (Unit {0}) ASN1Error → Type 0
 Checked B m s (Ok _) = EncodesSome B m s
 Checked B m s (Err e) = (kind_of e ≡ OutOfMemory → ⊥) → EncodesNone B m s
+
+-- how many pieces s is, each of which encodes a value in the mode m, or an error: another piece is after some of them, or memory ran out
+abbrev pub AllChecked : {A : Type 0} → Grammar A → BERMode → List ℕ → Result ℕ ASN1Error → Type 0
+AllChecked B m s (Ok n) = (1 ≤ n) × ArePieces (EncodesSome B m) n s
+AllChecked B m s (Err e) = (kind_of e ≡ OutOfMemory → ⊥) → (n : ℕ) × HasOther (EncodesSome B m) n s
 
 -- s encodes a value in the mode m, whose DER encoding is out
 pub record Reencodes {A : Type 0} (B : Grammar A) (encoding : Encoding A) (m : BERMode) (s out : List ℕ) : Type 0 where
