@@ -21,6 +21,49 @@ NULLS = b"\x05\x00" * 200_000
 # A run of asn1compile that reads its module from standard input.
 LISTING = ["--list", "--use", "x509", "-"]
 
+WRONG = b"3006 020105 010101"
+# What a program says of an input: the case's name, the words, the input, the status and what is on standard error.
+REPORTS = {
+    "asn1der": [
+        ("the place of an error", [], b"3006 020105 0405 41", 1, b"offset 5: Eof"),
+        ("the name of one of several files", ["-", "-"], b"3006 020105 0405 41", 1, None),
+        (
+            "a block that is cut off",
+            [],
+            b"-----BEGIN A-----\nBQA=\n-----END A-----\n-----BEGIN A-----\nBQEA\n-----END A-----\n",
+            1,
+            b"block 2: offset 0: Invalid: expected no contents",
+        ),
+        ("digits that are odd", ["--hex"], b"050", 1, None),
+    ],
+    "asn1check": [
+        ("the place of an error", ["rsa-public-key"], WRONG, 1, b"stdin: message 1: offset 5, at element 0.1: Invalid"),
+        (
+            "contents that are cut off",
+            ["rsa-public-key"],
+            b"3006 020105 0405 41",
+            1,
+            b"stdin: message 1: offset 5: Eof: expected 5 octets of contents, of which 1 are there",
+        ),
+        (
+            "the count of several messages",
+            ["rsa-public-key"],
+            b"3006 020105 020103" + WRONG,
+            1,
+            b"stdin: message 2: offset 13, at element 0.1: Invalid\nstdin: 1 of 2 messages rejected",
+        ),
+        (
+            "a label of another type",
+            ["certificate"],
+            b"-----BEGIN PUBLIC KEY-----\nMAA=\n-----END PUBLIC KEY-----\n",
+            1,
+            b'stdin: message 1: its label is "PUBLIC KEY"',
+        ),
+        ("no block", ["any"], b"3000", 1, b"stdin: message 1: offset 4: Eof: expected a line that begins a block of PEM"),
+        ("a kind that is none", ["x509", "-"], b"", 2, None),
+    ]
+}
+
 
 def many_octets():
     """An OCTET STRING of MANY octets."""
@@ -89,6 +132,9 @@ def cases(crate):
     closed = ends(crate, words, given, closed=True)
     yield "a closed pipe", closed, (3, b"")
     yield "an argument that isn't text", ends(crate, [b"\xff"], given), (2, NOT_TEXT)
+    for name, words_of_case, text, status, error in REPORTS.get(crate, []):
+        found = ends(crate, words_of_case, text)
+        yield name, found, (status, found[1] if error is None else error)
     yield "no memory", ends(crate, words, many_octets(), few=True), (3, NO_MEMORY)
 
 

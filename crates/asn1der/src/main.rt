@@ -1,75 +1,61 @@
-//! `asn1der [--strict] [FILE]` reads elements in BER from a file or standard input, and writes the same elements in DER to standard
-//! output.
+//! `asn1der [OPTIONS] [FILE ..]` reads elements in BER from files or standard input, and writes the same elements in DER to standard output.
 //!
 //! | Status | When |
 //! |---|---|
 //! | 0 | the elements are written |
-//! | 1 | the input isn't elements in BER, or with `--strict` their DER encoding is ambiguous: nothing is written |
+//! | 1 | an input isn't elements in BER, or with `--strict` their DER encoding is ambiguous: nothing is written of it |
 //! | 2 | usage error |
 //! | 3 | I/O error, or out of memory |
 //!
-//! `options` has those of the command line. The crate `asn1der_convert` holds what it does between its ends, and `program_io` the ends.
+//! The crate `asn1der_convert` converts bytes, `asn1_input` reads digits and PEM, and `program_io` holds the ends.
+//!
+//! | Module | Holds |
+//! |---|---|
+//! | `options` | the options of the command line |
+//! | `origin` | what messages name of an input |
+//! | `pem` | blocks of PEM that are written |
+//! | `conversion` | bytes as they are written |
+//! | `input` | what is written of an input |
 #![tactic(auto)]
 
+mod conversion;
+mod input;
 mod options;
+mod origin;
+mod pem;
 
-use asn1der_convert::ambiguity::{Ambiguities, Ambiguity};
-use asn1der_convert::conversion::{Converted, convert};
-use asn1der_convert::error::ConvertError;
+use input::written_of;
 use options::{Options, options_of};
-use program_io::{ProgramError, arguments, explain, write_output};
-use std::io::Write;
+use program_io::{Input, arguments, explain, write_output};
 use std::process::ExitCode;
 
-// The status if the input is malformed or ambiguous.
-const REJECTED: u8 = 1;
-
-// Reports the first ambiguity of each kind.
-fn report(rt: &HostRuntime, ambiguities: &Ambiguities) {
-    for ambiguity in [
-        Ambiguity::Segments,
-        Ambiguity::ImplicitSetOf,
-        Ambiguity::Order,
-    ] {
-        if let Some(offset) = ambiguities.first(ambiguity) {
-            let _ = writeln!(rt.stderr(), "offset {offset}: {ambiguity}");
-        }
-    }
-}
-
-// Reports why there are no elements, and returns the status.
-fn reject(rt: &HostRuntime, error: &ConvertError) -> u8 {
-    match error {
-        ConvertError::Malformed { .. } => {
-            let _ = writeln!(rt.stderr(), "{error}");
-            REJECTED
-        }
-        ConvertError::Memory => ProgramError::Memory.report(rt),
-    }
-}
-
-// Reports the ambiguities, writes the elements unless they are rejected, and returns the status.
-fn finish(rt: &HostRuntime, converted: &Converted, strict: bool) -> u8 {
-    report(rt, &converted.ambiguities);
-    if strict && converted.ambiguities.are_any() {
-        return REJECTED;
-    }
-    match write_output(rt, converted.bytes.as_slice()) {
-        Ok(()) => 0,
-        Err(error) => error.report(rt),
-    }
-}
-
-// Converts the input that the options name, and returns the status.
-fn run(rt: &HostRuntime, options: &Options<'_>) -> u8 {
-    let input = match options.input.read(rt) {
-        Ok(input) => input,
+// Converts an input, which messages name if it is one of several, and returns the status.
+fn convert_input(rt: &HostRuntime, options: &Options<'_>, input: Input<'_>, is_named: bool) -> u8 {
+    let name = if is_named { Some(input.name()) } else { None };
+    let bytes = match input.read(rt) {
+        Ok(bytes) => bytes,
         Err(status) => return status,
     };
-    match convert(rt.alloc(), input.as_slice()) {
-        Ok(converted) => finish(rt, &converted, options.strict),
-        Err(error) => reject(rt, &error),
+    match written_of(rt, options, name, bytes.as_slice()) {
+        Ok(output) => match write_output(rt, output.as_slice()) {
+            Ok(()) => 0,
+            Err(error) => error.report(rt),
+        },
+        Err(status) => status,
     }
+}
+
+// Converts the inputs that the options name, and returns the greatest status.
+fn run(rt: &HostRuntime, options: &Options<'_>) -> u8 {
+    let Some(files) = options.files() else {
+        return convert_input(rt, options, Input::Stdin, false);
+    };
+    let mut status = 0;
+    for file in files {
+        let ended = convert_input(rt, options, Input::named(Some(*file)), files.len() > 1);
+        status = status.max(ended);
+    }
+    status
 }
 
 fn main(rt: HostRuntime) -> ExitCode {

@@ -1,0 +1,69 @@
+//! Bytes as they are written: their elements in DER, or a block of PEM with these.
+
+use crate::options::Options;
+use crate::origin::Origin;
+use crate::pem::push_block;
+use asn1der_convert::ambiguity::{Ambiguities, Ambiguity};
+use asn1der_convert::conversion::{Converted, convert};
+use asn1der_convert::error::ConvertError;
+use program_io::ProgramError;
+use std::io::Write;
+
+/// The exit status if an input is malformed or ambiguous.
+pub const REJECTED: u8 = 1;
+
+// Reports the first ambiguity of each kind.
+fn report(rt: &HostRuntime, origin: Origin<'_>, ambiguities: &Ambiguities) {
+    for ambiguity in [
+        Ambiguity::Segments,
+        Ambiguity::ImplicitSetOf,
+        Ambiguity::Order,
+    ] {
+        if let Some(offset) = ambiguities.first(ambiguity) {
+            let _ = writeln!(rt.stderr(), "{origin}offset {offset}: {ambiguity}");
+        }
+    }
+}
+
+// Reports why there are no elements, and returns the status.
+fn reject(rt: &HostRuntime, origin: Origin<'_>, error: &ConvertError) -> u8 {
+    match error {
+        ConvertError::Malformed { .. } => {
+            let _ = writeln!(rt.stderr(), "{origin}{error}");
+            REJECTED
+        }
+        ConvertError::Memory => ProgramError::Memory.report(rt),
+    }
+}
+
+// The block of PEM of these elements, if a label is asked for, or else the elements.
+fn labelled(rt: &HostRuntime, options: &Options<'_>, bytes: Vec<u8>) -> Result<Vec<u8>, u8> {
+    let Some(label) = options.label else {
+        return Ok(bytes);
+    };
+    let mut block = Vec::new(rt.alloc());
+    match push_block(rt.alloc(), &mut block, label.as_bytes(), bytes.as_slice()) {
+        Ok(()) => Ok(block),
+        Err(_) => Err(ProgramError::Memory.report(rt)),
+    }
+}
+
+/// What is written of bytes. Else the errors are reported, and the exit status is returned.
+pub fn written(
+    rt: &HostRuntime,
+    options: &Options<'_>,
+    origin: Origin<'_>,
+    bytes: &[u8],
+) -> Result<Vec<u8>, u8> {
+    match convert(rt.alloc(), bytes) {
+        Ok(converted) => {
+            let Converted { bytes, ambiguities } = converted;
+            report(rt, origin, &ambiguities);
+            if options.strict && ambiguities.are_any() {
+                return Err(REJECTED);
+            }
+            labelled(rt, options, bytes)
+        }
+        Err(error) => Err(reject(rt, origin, &error)),
+    }
+}
