@@ -21,20 +21,26 @@ def certificates():
 
 
 def inputs(folder, megabytes):
-    """The two files of this size: certificates one after the other, and one SEQUENCE of them."""
+    """The two files of this size: certificates one after the other, and one SEQUENCE of them. They are written piece by piece, so little memory is used."""
     some = certificates()
-    octets = some * max(1, megabytes * 1_000_000 // len(some))
+    times = max(1, megabytes * 1_000_000 // len(some))
     loose, whole = folder / f"{megabytes}.der", folder / f"{megabytes}.sequence"
-    loose.write_bytes(octets)
-    whole.write_bytes(b"\x30\x84" + len(octets).to_bytes(4, "big") + octets)
+    with loose.open("wb") as one, whole.open("wb") as other:
+        other.write(b"\x30\x84" + (times * len(some)).to_bytes(4, "big"))
+        for _ in range(times):
+            one.write(some)
+            other.write(some)
     return loose, whole
 
 
 def measured(words):
-    """The seconds of the processor that a command takes, its most memory in MB, and its status. Its output goes nowhere."""
-    pid = os.posix_spawnp(words[0], words, os.environ, file_actions=[(os.POSIX_SPAWN_OPEN, 1, "/dev/null", os.O_WRONLY, 0), (os.POSIX_SPAWN_OPEN, 2, "/dev/null", os.O_WRONLY, 0)])
+    """The seconds of the processor that a command takes, and its most memory in MB. Its output goes nowhere."""
+    nowhere = [(os.POSIX_SPAWN_OPEN, place, "/dev/null", os.O_WRONLY, 0) for place in (1, 2)]
+    pid = os.posix_spawnp(words[0], words, os.environ, file_actions=nowhere)
     _, status, used = os.wait4(pid, 0)
-    return used.ru_utime + used.ru_stime, used.ru_maxrss / 1024, os.waitstatus_to_exitcode(status)
+    if status < 0 or os.WIFSIGNALED(status):
+        sys.exit(f"{words[0]} was ended by a signal")
+    return used.ru_utime + used.ru_stime, used.ru_maxrss / 1024
 
 
 def commands(loose, whole):
@@ -52,8 +58,8 @@ def main(folder):
     rows = {}
     for megabytes in SIZES:
         for name, words in commands(*inputs(folder, megabytes)):
-            seconds, memory, status = measured(words)
-            rows.setdefault(name, []).append(f"{seconds:.1f} s, {memory:,.0f} MB" + (f", status {status}" if status else ""))
+            seconds, memory = measured(words)
+            rows.setdefault(name, []).append(f"{seconds:.2f} s, {memory:,.0f} MB")
     print(f"| Program | {' | '.join(f'{it} MB' for it in SIZES)} |\n|---|{'---|' * len(SIZES)}")
     for name, cells in rows.items():
         print(f"| {name} | {' | '.join(cells)} |")
