@@ -23,7 +23,7 @@ apt() {
 
 # Downloads the sources of the package $1, and takes its modules out.
 source_of() {
-    [ -n "$(find "$folder" -maxdepth 1 -name "$1_*.dsc")" ] || (cd "$folder" && apt source --download-only "$1")
+    [ -n "$(find "$folder" -maxdepth 1 -name "$1_*.orig.tar.*")" ] || (cd "$folder" && apt source --download-only --tar-only "$1")
     unpack "$1" "$(find "$folder" -maxdepth 1 -name "$1_*.orig.tar.*" ! -name '*.asc')"
 }
 
@@ -49,6 +49,6 @@ done
 for package in erlang-src snacc; do
     binary_of "$package"
 done
-(cd "$folder" && find . -maxdepth 1 -name '*.dsc' -o -maxdepth 1 -name '*.deb') |
-    sed -e 's|^\./||' -e 's|\.dsc$||' -e 's|_[a-z0-9]*\.deb$||' -e 's|%3a|:|' | sort | tr '_' ' '
+(cd "$folder" && find . -maxdepth 1 -name '*.orig.tar.*' ! -name '*.asc' -o -maxdepth 1 -name '*.deb') |
+    sed -e 's|^\./||' -e 's|\.orig\.tar\.[a-z0-9]*$||' -e 's|_[a-z0-9]*\.deb$||' -e 's|%3a|:|' | sort | tr '_' ' '
 python3 ci/module_coverage.py "$program" "$work/modules"
