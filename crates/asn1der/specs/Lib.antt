@@ -1,1 +1,2 @@
 pub mod Pem
+pub mod Written

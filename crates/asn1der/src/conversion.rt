@@ -1,4 +1,6 @@
 //! Bytes as they are written: their elements in DER, or a block of PEM with these.
+ghost use Rattle.std.specs.Prelude.{◌≡◌, ◌⊎◌, IfErr, IfOk};
+ghost use Rattle.asn1der.specs.Written.{labelled, IsWritten};
 
 use crate::options::Options;
 use crate::origin::Origin;
@@ -26,7 +28,9 @@ fn report(rt: &HostRuntime, origin: Origin<'_>, ambiguities: &Ambiguities) {
 }
 
 // Reports why there are no elements, and returns the status.
-fn reject(rt: &HostRuntime, origin: Origin<'_>, error: &ConvertError) -> u8 {
+fn reject(rt: &HostRuntime, origin: Origin<'_>, error: &ConvertError) -> u8
+    ensures { (result ≡ 1) ⊎ (result ≡ 3) }
+{
     match error {
         ConvertError::Malformed { .. } => {
             let _ = writeln!(rt.stderr(), "{origin}{error}");
@@ -37,7 +41,10 @@ fn reject(rt: &HostRuntime, origin: Origin<'_>, error: &ConvertError) -> u8 {
 }
 
 // The block of PEM of these elements, if a label is asked for, or else the elements.
-fn labelled(rt: &HostRuntime, options: &Options<'_>, bytes: Vec<u8>) -> Result<Vec<u8>, u8> {
+fn labelled(rt: &HostRuntime, options: &Options<'_>, bytes: Vec<u8>) -> Result<Vec<u8>, u8>
+    ensures output { IfOk result (λ output. output.items ≡ labelled options.now.label bytes.items) }
+    ensures status { IfErr result (λ status. status ≡ 3) }
+{
     let Some(label) = options.label else {
         return Ok(bytes);
     };
@@ -54,7 +61,10 @@ pub fn written(
     options: &Options<'_>,
     origin: Origin<'_>,
     bytes: &[u8],
-) -> Result<Vec<u8>, u8> {
+) -> Result<Vec<u8>, u8>
+    ensures output { IfOk result (λ output. IsWritten options.now.label bytes.now output.items) }
+    ensures status { IfErr result (λ status. (status ≡ 1) ⊎ (status ≡ 3)) }
+{
     match convert(rt.alloc(), bytes) {
         Ok(converted) => {
             let Converted { bytes, ambiguities } = converted;

@@ -1,4 +1,7 @@
 //! What is written of an input: of its bytes, of those that its digits say, or of those of each block of PEM.
+ghost use Rattle.std.specs.Prelude.{◌≡◌, IfOk, Some};
+ghost use Rattle.asn1_input.specs.declared.input_format.InputFormat.TheVariants.{Bytes, Hex};
+ghost use Rattle.asn1der.specs.Written.{IsWritten, IsWrittenOfHex};
 
 use crate::conversion::{REJECTED, written};
 use crate::options::Options;
@@ -116,7 +119,9 @@ fn written_of_digits(
     options: &Options<'_>,
     name: Option<&str>,
     input: &[u8],
-) -> Result<Vec<u8>, u8> {
+) -> Result<Vec<u8>, u8>
+    ensures { IfOk result (λ output. IsWrittenOfHex options.now.label input.now output.items) }
+{
     let text = text_of(input);
     let origin = Origin { name, block: None };
     match decode_hex(rt.alloc(), text, input.len() - text.len()) {
@@ -131,7 +136,10 @@ pub fn written_of(
     options: &Options<'_>,
     name: Option<&str>,
     input: &[u8],
-) -> Result<Vec<u8>, u8> {
+) -> Result<Vec<u8>, u8>
+    ensures bytes { options.now.input_format ≡ Some Bytes → IfOk result (λ output. IsWritten options.now.label input.now output.items) }
+    ensures hex { options.now.input_format ≡ Some Hex → IfOk result (λ output. IsWrittenOfHex options.now.label input.now output.items) }
+{
     let input_format = match options.input_format {
         Some(input_format) => input_format,
         None => format_of(input),
