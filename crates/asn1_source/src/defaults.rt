@@ -86,7 +86,7 @@ pub fn untagged(notation: &Notation) -> &Notation {
 // Whether the values of a notation are `u64`.
 fn is_natural(notation: &Notation) -> bool {
     match untagged(notation) {
-        Notation::Integer(bounds) => integer_shape(*bounds, true).form.value == "u64",
+        Notation::Integer(bounds, _) => integer_shape(*bounds, true).form.value == "u64",
         _ => false,
     }
 }

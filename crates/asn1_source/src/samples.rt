@@ -135,9 +135,9 @@ impl Sampler<'_> {
         match notation {
             Notation::Boolean => put_primitive(1, &[255], out),
             Notation::Null | Notation::Any => put_primitive(5, &[], out),
-            Notation::Integer(bounds) => put_number(2, number_in(bounds), self.alloc, out),
+            Notation::Integer(bounds, _) => put_number(2, number_in(bounds), self.alloc, out),
             Notation::ObjectIdentifier => put_primitive(6, &[42, 3], out),
-            Notation::NamedBits(_) => put_primitive(3, &[7, 128], out),
+            Notation::NamedBits(_, _) => put_primitive(3, &[7, 128], out),
             Notation::UtcTime => put_primitive(23, b"260101000000Z", out),
             Notation::GeneralizedTime => put_primitive(24, b"20260101000000Z", out),
             Notation::OctetsUnder(number) => put_primitive(*number, b"a", out),

@@ -237,7 +237,7 @@ pub fn tag_shape(tag: TagLayer) -> Shape {
 pub fn shape_of(notation: &Notation, is_default: bool) -> Option<Shape> {
     Some(match notation {
         Notation::Defined(_) | Notation::Imported(_) => return None,
-        Notation::Integer(bounds) => integer_shape(*bounds, is_default),
+        Notation::Integer(bounds, _) => integer_shape(*bounds, is_default),
         Notation::Text(kind, _) => plain(text_form(*kind)),
         Notation::Tagged(tag, _) => tag_shape(*tag),
         Notation::OctetsUnder(tag) => numbered(&OCTETS_UNDER, *tag, 0),
@@ -247,7 +247,7 @@ pub fn shape_of(notation: &Notation, is_default: bool) -> Option<Shape> {
         Notation::ObjectIdentifier => plain(&OBJECT_IDENTIFIER),
         Notation::OctetString(_) => plain(&OCTETS),
         Notation::BitString(_) => plain(&BITS),
-        Notation::NamedBits(_) => plain(&NAMED_BITS),
+        Notation::NamedBits(_, _) => plain(&NAMED_BITS),
         Notation::UtcTime => plain(&UTC_TIME),
         Notation::GeneralizedTime => plain(&GENERALIZED_TIME),
         Notation::Any => plain(&ANY),

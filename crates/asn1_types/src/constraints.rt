@@ -249,8 +249,8 @@ pub fn constrain_list<'a>(
 /// Adds a constraint to a notation, and says whether the notation accepts more. Sizes of named bits and of a BMPString aren't tested.
 pub fn constrain<'a>(names: Names<'a>, notation: &mut Notation, tokens: &'a [Token<'a>]) -> bool {
     match notation {
-        Notation::Integer(bounds) => constrain_numbers(names, bounds, tokens),
-        Notation::NamedBits(size) | Notation::Text(TextKind::Bmp, size) => {
+        Notation::Integer(bounds, _) => constrain_numbers(names, bounds, tokens),
+        Notation::NamedBits(size, _) | Notation::Text(TextKind::Bmp, size) => {
             let _ = constrain_size(names, size, tokens);
             true
         }

@@ -68,7 +68,7 @@ pub fn default_value<'a>(
 ) -> Option<DefaultValue<'a>> {
     match (without_tags(notation), value) {
         (Notation::Boolean, _) => boolean(value),
-        (Notation::Integer(_), _) => Some(DefaultValue::Integer(number(r, at, value)?)),
+        (Notation::Integer(_, _), _) => Some(DefaultValue::Integer(number(r, at, value)?)),
         (Notation::Defined(index), [name]) => item(r, *index, *name),
         _ => None,
     }

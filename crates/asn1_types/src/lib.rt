@@ -32,6 +32,7 @@
 //! | `tags_of_types` | the tags that encodings begin with, and parts that no tag distinguishes |
 //! | `defaults` | the values after DEFAULT |
 //! | `resolver` | what is known while types are resolved |
+//! | `named_numbers` | the names in the braces of an INTEGER or a BIT STRING |
 //! | `plain` | types in which no other type is, tags, and constraints |
 //! | `open_types` | parameters, and fields of classes |
 //! | `bodies` | SEQUENCEs, SETs and CHOICEs |
@@ -51,6 +52,7 @@ mod enumerations;
 mod integers;
 pub mod model;
 mod modules;
+mod named_numbers;
 mod open_types;
 mod plain;
 mod problem;

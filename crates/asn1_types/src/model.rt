@@ -23,6 +23,8 @@ pub struct Resolved<'a> {
     pub constants: Vec<Constant<'a>>,
     /// Of each definition, the tags that its encodings begin with.
     pub tag_sets: Vec<TagSet>,
+    /// The names in the braces of each INTEGER and BIT STRING that has some.
+    pub named_numbers: Vec<NamedNumbers<'a>>,
     /// Why types are rejected. The list of definitions has none of these types.
     pub problems: Vec<Problem>,
 }
@@ -151,6 +153,24 @@ pub struct EnumerationItem<'a> {
     pub is_addition: bool,
 }
 
+/// The names in the braces of an INTEGER or a BIT STRING.
+#[derive(Drop)]
+pub struct NamedNumbers<'a> {
+    /// Where the first of them is.
+    pub place: Place,
+    /// The names whose numbers are known, in the order of the module.
+    pub items: Vec<NamedNumber<'a>>,
+}
+
+/// A named number, or a named bit with its position.
+#[derive(Clone, Copy)]
+pub struct NamedNumber<'a> {
+    /// The name.
+    pub name: &'a [u8],
+    /// The number.
+    pub number: Integer,
+}
+
 /// A type as it is used in another one.
 #[derive(Drop)]
 pub enum Notation {
@@ -158,16 +178,17 @@ pub enum Notation {
     Boolean,
     /// NULL.
     Null,
-    /// An INTEGER, of all numbers or of those within bounds.
-    Integer(IntegerBounds),
+    /// An INTEGER, of all numbers or of those within bounds, and the index of its names in `Resolved::named_numbers`.
+    Integer(IntegerBounds, Option<usize>),
     /// OBJECT IDENTIFIER.
     ObjectIdentifier,
     /// OCTET STRING, its size in octets.
     OctetString(Size),
     /// BIT STRING without named bits, its size in bits.
     BitString(Size),
-    /// BIT STRING with named bits: zeros at its end mean nothing (X.680, 22.7). The size is in bits.
-    NamedBits(Size),
+    /// BIT STRING with named bits: zeros at its end mean nothing (X.680, 22.7). The size is in bits, and the index is that of its names in
+    /// `Resolved::named_numbers`.
+    NamedBits(Size, Option<usize>),
     /// A string of characters, its size in characters.
     Text(TextKind, Size),
     /// UTCTime.

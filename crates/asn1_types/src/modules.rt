@@ -86,6 +86,7 @@ fn resolved<'a>(alloc: Global, scope: Scope<'a>) -> Result<Resolved<'a>, Stop> {
     Ok(Resolved {
         definitions: r.definitions,
         tag_sets: r.tag_sets,
+        named_numbers: r.named_numbers,
         constants: constants.list,
         problems,
     })

@@ -38,7 +38,7 @@ fn field_notation<'a>(
     match word_after(class_fields(scope, module, class), field.text) {
         Some(word) => match builtin_of(word.text) {
             Some(Builtin::ObjectIdentifier) => Notation::ObjectIdentifier,
-            Some(Builtin::Integer) => Notation::Integer(UNBOUNDED),
+            Some(Builtin::Integer) => Notation::Integer(UNBOUNDED, None),
             Some(Builtin::Boolean) => Notation::Boolean,
             _ => Notation::Any,
         },

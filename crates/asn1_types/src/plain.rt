@@ -5,9 +5,10 @@ ghost use Rattle.asn1_types.specs.Tags.{IsTagOf, class_named, class_written, env
 
 use crate::builtins::Builtin;
 use crate::constraints::{Names, constrain, constrain_list, loosening_of};
-use crate::cores::{BracesAt, TypeAt, braces_of, untagged};
+use crate::cores::{BracesAt, TypeAt, braces, braces_of, untagged};
 use crate::integers::{ANY_SIZE, UNBOUNDED};
 use crate::model::{Loosening, Notation, Place, Tag, TagClass, TagLayer, TagMode};
+use crate::named_numbers::names_in;
 use crate::problem::{Problem, ProblemKind, Stop, problem_at};
 use crate::resolver::{Resolver, environment, note};
 use crate::scope::Scope;
@@ -16,25 +17,29 @@ use crate::tags_of_types::is_untagged;
 use crate::tokens::{is, is_word};
 use crate::values::number_of;
 use asn1_syntax::Token;
-use asn1_syntax::tree::{ListSize, PlainType, TagNotation, TypeNotation};
+use asn1_syntax::tree::{ListSize, TagNotation, TypeNotation};
 
-// Whether braces are after the words of a type, and something is in them.
-fn has_items(plain: &PlainType<'_>) -> bool {
-    match &plain.braces {
-        Some(tokens) => !tokens.is_empty(),
-        None => false,
+// The index of the names of numbers or bits in the braces after a type, if it has some.
+fn names_after<'a>(
+    r: &mut Resolver<'a>,
+    at: TypeAt<'a>,
+    builtin: Builtin,
+) -> Result<Option<usize>, Stop> {
+    match builtin {
+        Builtin::Integer | Builtin::BitString => names_in(r, at.module, braces(at.notation)),
+        _ => Ok(None),
     }
 }
 
-// The notation of a type that has a word of its own, and is no ENUMERATED.
-fn notation_of(builtin: Builtin, plain: &PlainType<'_>) -> Notation {
+// The notation of a type that has a word of its own, and is no ENUMERATED, with the names of this index.
+fn notation_of(builtin: Builtin, names: Option<usize>) -> Notation {
     match builtin {
         Builtin::Boolean => Notation::Boolean,
         Builtin::Null => Notation::Null,
-        Builtin::Integer => Notation::Integer(UNBOUNDED),
+        Builtin::Integer => Notation::Integer(UNBOUNDED, names),
         Builtin::ObjectIdentifier => Notation::ObjectIdentifier,
         Builtin::OctetString => Notation::OctetString(ANY_SIZE),
-        Builtin::BitString if has_items(plain) => Notation::NamedBits(ANY_SIZE),
+        Builtin::BitString if names.is_some() => Notation::NamedBits(ANY_SIZE, names),
         Builtin::BitString => Notation::BitString(ANY_SIZE),
         Builtin::Text(kind) => Notation::Text(kind, ANY_SIZE),
         Builtin::UtcTime => Notation::UtcTime,
@@ -55,17 +60,17 @@ fn loosening(builtin: Builtin) -> Option<Loosening> {
 }
 
 /// The notation of a type that has a word of its own, and is no ENUMERATED.
-pub fn builtin_notation(
-    r: &mut Resolver<'_>,
-    module: usize,
-    word: Token<'_>,
+pub fn builtin_notation<'a>(
+    r: &mut Resolver<'a>,
+    place: TypeAt<'a>,
+    word: Token<'a>,
     builtin: Builtin,
-    plain: &PlainType<'_>,
 ) -> Result<Notation, Stop> {
     if let Some(what) = loosening(builtin) {
-        note(r, at(module, word), what)?;
+        note(r, at(place.module, word), what)?;
     }
-    Ok(notation_of(builtin, plain))
+    let names = names_after(r, place, builtin)?;
+    Ok(notation_of(builtin, names))
 }
 
 /// The place of a lexical item.

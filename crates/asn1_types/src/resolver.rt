@@ -2,7 +2,7 @@
 ghost use Rattle.std.specs.Prelude.{◌≡◌};
 ghost use Rattle.asn1_types.specs.Tags.{environment_of};
 
-use crate::model::{Body, Definition, Loosening, Looser, Place, TagLayer};
+use crate::model::{Body, Definition, Loosening, Looser, NamedNumbers, Place, TagLayer};
 use crate::problem::{Problem, Stop};
 use crate::scope::{AssignmentPlace, Scope, exports_name};
 use crate::tags_of_types::{TagSet, set_of_body};
@@ -38,6 +38,8 @@ pub struct Resolver<'a> {
     pub definitions: Vec<Definition<'a>>,
     /// For each definition, the tags that its encodings begin with.
     pub tag_sets: Vec<TagSet>,
+    /// The names of numbers and bits.
+    pub named_numbers: Vec<NamedNumbers<'a>>,
     /// Why types are rejected.
     pub problems: Vec<Problem>,
     /// The definition that is being resolved.
@@ -77,6 +79,7 @@ pub fn new_resolver<'a>(alloc: Global, scope: Scope<'a>) -> Result<Resolver<'a>,
         states,
         definitions: Vec::new(alloc),
         tag_sets: Vec::new(alloc),
+        named_numbers: Vec::new(alloc),
         problems: Vec::new(alloc),
         work: Work {
             assignment: 0,

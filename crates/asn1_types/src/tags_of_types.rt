@@ -52,8 +52,8 @@ fn text_number(kind: TextKind) -> u64 {
 fn own_tag(notation: &Notation) -> Option<Tag> {
     let number = match notation {
         Notation::Boolean => 1,
-        Notation::Integer(_) => 2,
-        Notation::BitString(_) | Notation::NamedBits(_) => 3,
+        Notation::Integer(_, _) => 2,
+        Notation::BitString(_) | Notation::NamedBits(_, _) => 3,
         Notation::OctetString(_) => 4,
         Notation::Null => 5,
         Notation::ObjectIdentifier => 6,

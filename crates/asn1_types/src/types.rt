@@ -122,7 +122,7 @@ fn plain_notation<'a>(
             let index = define_enumeration(r, at)?;
             return Ok(Notation::Defined(index));
         }
-        return builtin_notation(r, at.module, word, builtin, plain);
+        return builtin_notation(r, at, word, builtin);
     }
     if let Some(open) = open_notation(r, at, plain)? {
         return Ok(open);

@@ -99,11 +99,11 @@ fn word_of(notation: &Notation) -> &'static str {
     match notation {
         Notation::Boolean => "BOOLEAN",
         Notation::Null => "NULL",
-        Notation::Integer(_) => "INTEGER",
+        Notation::Integer(_, _) => "INTEGER",
         Notation::ObjectIdentifier => "OID",
         Notation::OctetString(_) => "OCTETS",
         Notation::BitString(_) => "BITS",
-        Notation::NamedBits(_) => "NAMED BITS",
+        Notation::NamedBits(_, _) => "NAMED BITS",
         Notation::Text(kind, _) => text_word(*kind),
         Notation::UtcTime => "UTC",
         Notation::GeneralizedTime => "GENERALIZED",
@@ -121,10 +121,10 @@ fn word_of(notation: &Notation) -> &'static str {
 fn describe_notation(out: &mut Description, notation: &Notation) {
     out.put(word_of(notation));
     match notation {
-        Notation::Integer(bounds) => describe_bounds(out, *bounds),
+        Notation::Integer(bounds, _) => describe_bounds(out, *bounds),
         Notation::OctetString(size)
         | Notation::BitString(size)
-        | Notation::NamedBits(size)
+        | Notation::NamedBits(size, _)
         | Notation::Text(_, size) => describe_size(out, *size),
         Notation::OctetsUnder(number) | Notation::ElementsUnder(number) => out.number(*number),
         Notation::Defined(index) | Notation::Imported(index) => out.number(*index as u64),
