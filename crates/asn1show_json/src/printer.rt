@@ -78,7 +78,7 @@ impl<'w, 'n, W: Write + Drop> JsonPrinter<'w, 'n, W> {
         ensures { IfErr result IsExternal }
     {
         let ends = self.open.enter(item.depth);
-        let value = value_of(item, self.report.value()?);
+        let value = value_of(item, self.report.plain_value()?);
         let text = element_text(
             self.alloc,
             ends,

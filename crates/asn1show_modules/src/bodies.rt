@@ -1,10 +1,14 @@
 //! Types that are declared.
 
-use crate::builder::{Builder, Rows};
+use crate::builder::Builder;
+use crate::defaults::{default_of, spread_default};
 use crate::notations::{add_layer, add_notation};
 use crate::own_tags::universal;
-use asn1_types::model::{Alternatives, Body, Components, Definition, Part, Presence, TagLayer};
-use asn1show_schema::schema::{Contents, Parts};
+use crate::sizes::number_of_i64;
+use asn1_types::model::{
+    Alternatives, Body, Components, Definition, Enumeration, Part, Presence, TagLayer,
+};
+use asn1show_schema::schema::{Contents, Parts, Rows, ValueType};
 use std::alloc::AllocError;
 
 // Whether an element of a part may be absent: earlier versions leave additions out.
@@ -30,7 +34,9 @@ fn add_parts(builder: &mut Builder, components: &Components<'_>) -> Result<Parts
     let first = builder.count_places();
     for (part, rows) in components.parts.iter().zip(all.iter()) {
         let name = builder.add_name(part.name)?;
-        builder.add_place(name, may_be_absent(part), *rows)?;
+        let default = default_of(builder, part)?;
+        spread_default(builder, &part.notation, *rows, default.number);
+        builder.add_place(name, may_be_absent(part), default, *rows)?;
     }
     let extension = match components.extension {
         Some(count) => Some(first.saturating_add(count)),
@@ -63,6 +69,22 @@ fn add_alternatives(builder: &mut Builder, choice: &Alternatives<'_>) -> Result<
     })
 }
 
+// Adds the items of an ENUMERATED.
+fn add_items(builder: &mut Builder, items: &Enumeration<'_>) -> Result<Rows, AllocError> {
+    let first = builder.count_named_numbers();
+    for item in items.items.iter() {
+        builder.add_named_number(item.name, number_of_i64(item.number))?;
+    }
+    let rows = Rows {
+        first,
+        end: builder.count_named_numbers(),
+    };
+    builder.add_beginning(
+        Some(universal(10)),
+        Contents::Value(ValueType::Enumerated(rows, items.is_extensible)),
+    )
+}
+
 // Adds how the values of a body begin.
 fn add_body(builder: &mut Builder, body: &Body<'_>) -> Result<Rows, AllocError> {
     match body {
@@ -75,7 +97,7 @@ fn add_body(builder: &mut Builder, body: &Body<'_>) -> Result<Rows, AllocError> 
             builder.add_beginning(Some(universal(17)), Contents::InAnyOrder(parts))
         }
         Body::Choice(choice) => add_alternatives(builder, choice),
-        Body::Enumerated(_) => builder.add_beginning(Some(universal(10)), Contents::Value),
+        Body::Enumerated(items) => add_items(builder, items),
         Body::Value(notation) | Body::Alias(notation) => add_notation(builder, notation),
     }
 }

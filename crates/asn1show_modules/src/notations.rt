@@ -1,9 +1,10 @@
 //! Types as they are used in another one.
 
-use crate::builder::{Builder, NO_NAME, Rows};
-use crate::own_tags::{layer_tag, simple_tag, universal};
-use asn1_types::model::{Notation, TagLayer, TagMode};
-use asn1show_schema::schema::Contents;
+use crate::builder::{Builder, NO_DEFAULT, NO_NAME, NO_ROWS};
+use crate::own_tags::{layer_tag, simple_tag, text_number, universal};
+use crate::sizes::{bounds_of, size_of};
+use asn1_types::model::{Notation, Size, TagLayer, TagMode};
+use asn1show_schema::schema::{Contents, Rows, ValueType};
 use std::alloc::{AllocError, Global};
 
 /// Adds a tag around rows.
@@ -12,16 +13,45 @@ pub fn add_layer(builder: &mut Builder, layer: TagLayer, rows: Rows) -> Result<R
     match layer.mode {
         TagMode::Implicit => builder.add_tagged(rows, tag),
         TagMode::Explicit => {
-            let place = builder.add_place(NO_NAME, false, rows)?;
+            let place = builder.add_place(NO_NAME, false, NO_DEFAULT, rows)?;
             builder.add_beginning(Some(tag), Contents::One(place))
         }
     }
 }
 
-// Adds a list of elements that begin as rows do.
-fn add_list(builder: &mut Builder, number: u64, rows: Rows) -> Result<Rows, AllocError> {
-    let place = builder.add_place(NO_NAME, false, rows)?;
-    builder.add_beginning(Some(universal(number)), Contents::Each(place))
+// Adds a SEQUENCE OF elements that begin as rows do.
+fn add_sequence_of(builder: &mut Builder, size: Size, rows: Rows) -> Result<Rows, AllocError> {
+    let place = builder.add_place(NO_NAME, false, NO_DEFAULT, rows)?;
+    builder.add_beginning(
+        Some(universal(16)),
+        Contents::SequenceOf(place, size_of(size)),
+    )
+}
+
+// Adds a SET OF elements that begin as rows do.
+fn add_set_of(builder: &mut Builder, size: Size, rows: Rows) -> Result<Rows, AllocError> {
+    let place = builder.add_place(NO_NAME, false, NO_DEFAULT, rows)?;
+    builder.add_beginning(Some(universal(17)), Contents::SetOf(place, size_of(size)))
+}
+
+// What is in a type in which no other one is.
+fn contents_of(builder: &Builder, notation: &Notation) -> Contents {
+    Contents::Value(match notation {
+        Notation::Boolean => ValueType::Other(1),
+        Notation::Null => ValueType::Other(5),
+        Notation::Integer(bounds, names) => {
+            ValueType::Integer(bounds_of(*bounds), builder.names(*names))
+        }
+        Notation::ObjectIdentifier => ValueType::Other(6),
+        Notation::OctetString(size) => ValueType::OctetString(size_of(*size)),
+        Notation::BitString(size) => ValueType::BitString(size_of(*size)),
+        Notation::NamedBits(_, names) => ValueType::NamedBits(builder.names(*names)),
+        Notation::Text(kind, size) => ValueType::Text(text_number(*kind), size_of(*size)),
+        Notation::UtcTime => ValueType::Other(23),
+        Notation::GeneralizedTime => ValueType::Other(24),
+        Notation::OctetsUnder(number) => ValueType::Other(*number),
+        _ => return Contents::Any,
+    })
 }
 
 // Adds a type in which no other one is.
@@ -31,14 +61,15 @@ fn add_simple(builder: &mut Builder, notation: &Notation) -> Result<Rows, AllocE
             return Ok(rows);
         }
     }
-    builder.add_beginning(simple_tag(notation), Contents::Value)
+    let contents = contents_of(builder, notation);
+    builder.add_beginning(simple_tag(notation), contents)
 }
 
 // Adds a type around rows, or one in which no other is.
 fn add_around(builder: &mut Builder, notation: &Notation, rows: Rows) -> Result<Rows, AllocError> {
     match notation {
-        Notation::SequenceOf(_, _) => add_list(builder, 16, rows),
-        Notation::SetOf(_, _) => add_list(builder, 17, rows),
+        Notation::SequenceOf(_, size) => add_sequence_of(builder, *size, rows),
+        Notation::SetOf(_, size) => add_set_of(builder, *size, rows),
         Notation::Tagged(layer, _) => add_layer(builder, *layer, rows),
         _ => add_simple(builder, notation),
     }
@@ -64,7 +95,7 @@ fn nested<'n>(alloc: Global, notation: &'n Notation) -> Result<Vec<&'n Notation>
 /// Adds how the values of a type begin.
 pub fn add_notation(builder: &mut Builder, notation: &Notation) -> Result<Rows, AllocError> {
     let all = nested(builder.alloc, notation)?;
-    let mut rows = Rows { first: 0, end: 0 };
+    let mut rows = NO_ROWS;
     for one in all.as_slice().iter().rev() {
         rows = add_around(builder, *one, rows)?;
     }

@@ -37,8 +37,8 @@ pub fn layer_tag(layer: TagLayer) -> Tag
     }
 }
 
-// The number of a string of characters.
-fn text_number(kind: TextKind) -> u64 {
+/// The number of the UNIVERSAL tag of a string of characters.
+pub fn text_number(kind: TextKind) -> u64 {
     match kind {
         TextKind::Utf8 => 12,
         TextKind::Numeric => 18,
@@ -53,8 +53,8 @@ fn text_number(kind: TextKind) -> u64 {
 pub fn simple_tag(notation: &Notation) -> Option<Tag> {
     let number = match notation {
         Notation::Boolean => 1,
-        Notation::Integer(_) => 2,
-        Notation::BitString(_) | Notation::NamedBits(_) => 3,
+        Notation::Integer(_, _) => 2,
+        Notation::BitString(_) | Notation::NamedBits(_, _) => 3,
         Notation::OctetString(_) => 4,
         Notation::Null => 5,
         Notation::ObjectIdentifier => 6,

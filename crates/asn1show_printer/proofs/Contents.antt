@@ -16,6 +16,7 @@ use Rattle.yasna_times.proofs.GeneralText.{general_spells_one}
 use Rattle.yasna_times.proofs.UtcTime.{utc_spells_one}
 use Rattle.asn1show_printer.specs.Contents.{AreOfKind, IsLocalTime, InNone, OnlyInBer, DiagnosesOf, is_of_ber}
 use Rattle.asn1show_printer.specs.declared.asn_type.Characters.{Characters}
+use Rattle.asn1show_printer.specs.declared.asn_type.AsnType.{AsnType}
 use Rattle.asn1show_printer.specs.declared.asn_type.AsnType.TheVariants.{Boolean, GeneralizedTime as OfGeneralizedTime, Text, UtcTime as OfUtcTime, Whole}
 use Rattle.asn1show_printer.specs.declared.diagnostic.Diagnostic.{Diagnostic}
 use Rattle.asn1show_printer.specs.declared.diagnostic.Diagnostic.TheVariants.{Truth, Time, Local, NoTime}
@@ -43,6 +44,14 @@ truth_diagnosed x bytes some false f g = record {
   here = (true, encodes_true x some bytes refl refl);
   not_there = λ m can w. other_truth m w.0 x can some (g refl) w.1;
 }
+
+-- ---- contents that conform to each mode or to none
+
+pub none_or_all : (kind : AsnType) (H : Type 0) (s : List ℕ) → ((m : BERMode) → H → AreOfKind kind m s) → ((m : BERMode) → AreOfKind kind m s → H) →
+    (b : Bool) → (IsTrue b ↔ H) → (d : Diagnostic) → is_of_ber d ≡ true → DiagnosesOf kind s (cond b None (Some d))
+none_or_all kind H s f g true h d is = λ m. f m (h.0 refl)
+none_or_all kind H s f g false h d is =
+    subst (λ k. cond k (InNone (AreOfKind kind) s) (OnlyInBer (AreOfKind kind) s)) (sym is) (λ m w. let k = h.1 (g m w) in absurd (cc))
 
 -- ---- UTCTime
 

@@ -1,11 +1,12 @@
 -- The encoding rules that diagnostics exclude, and which diagnostics are shown.
-use Rattle.std.specs.Prelude.{◌≡◌, Bool, true, false, ◌&&◌, not, Option, Some, None}
+use Rattle.std.specs.Prelude.{◌≡◌, Bool, true, false, ◌&&◌, ◌||◌, not, Option, Some, None}
 use Rattle.yasna_base.specs.declared.mode.BERMode.{BERMode}
 use Rattle.yasna_base.specs.declared.mode.BERMode.TheVariants.{Ber, Der, Cer}
 use Rattle.asn1show_printer.specs.declared.diagnostic.Conformance.{Conformance}
 use Rattle.asn1show_printer.specs.declared.diagnostic.Diagnostic.{Diagnostic}
 use Rattle.asn1show_printer.specs.declared.diagnostic.Diagnostic.TheVariants.{LongLength, Indefinite, Segments, Truth, Padding, Order, TagOrder, Time, Local}
-use Rattle.asn1show_printer.specs.declared.diagnostic.Diagnostic.TheVariants.{Definite, Uncut, NotInModule}
+use Rattle.asn1show_printer.specs.declared.diagnostic.Diagnostic.TheVariants.{Definite, Uncut, NotInModule, Missing, Repeated, Bounds, Item, LastZeros}
+use Rattle.asn1show_printer.specs.declared.diagnostic.Diagnostic.TheVariants.{Size, Default}
 use Rattle.asn1show_printer.specs.declared.selection.Selection.{Selection}
 use Rattle.asn1show_printer.specs.declared.selection.Selection.TheVariants.{Elements, Defects, Bytes}
 
@@ -38,7 +39,24 @@ excludes Local m = is_canonical m
 excludes Definite m = is_cer m
 excludes Uncut m = is_cer m
 excludes NotInModule m = false
+excludes Missing m = false
+excludes Repeated m = false
+excludes Bounds m = false
+excludes Size m = false
+excludes Item m = false
+excludes Default m = is_canonical m
+excludes LastZeros m = is_canonical m
 excludes other m = true
+
+-- whether an element with a diagnostic isn't as the module says
+abbrev pub is_of_module : Diagnostic → Bool
+is_of_module NotInModule = true
+is_of_module Missing = true
+is_of_module Repeated = true
+is_of_module Bounds = true
+is_of_module Size = true
+is_of_module Item = true
+is_of_module other = false
 
 -- whether elements conform to a mode
 abbrev pub conforms : Conformance → BERMode → Bool
@@ -47,11 +65,10 @@ conforms c Der = c.der
 conforms c Cer = c.cer
 
 -- whether a diagnostic of an element is shown, which may be in a string: in a listing what excludes DER or isn't in the module, and in a check what
--- excludes the rules of the whole
+-- excludes the rules of the whole or isn't in the module
 abbrev pub shows : Selection → Bool → Diagnostic → Bool
-shows (Elements extent) in_string NotInModule = true
-shows (Elements extent) in_string d = excludes d Der
-shows (Defects m) in_string d = not in_string && excludes d m
+shows (Elements extent) in_string d = is_of_module d || excludes d Der
+shows (Defects m) in_string d = not in_string && (is_of_module d || excludes d m)
 shows (Bytes at part) in_string d = false
 
 -- the conformance after further elements: to the modes that both conform to

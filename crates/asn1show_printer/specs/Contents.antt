@@ -26,6 +26,7 @@ use Rattle.asn1show_printer.specs.declared.diagnostic.Diagnostic.TheVariants.{Lo
 use Rattle.asn1show_printer.specs.declared.diagnostic.Diagnostic.TheVariants.{HasParts, HasNoParts, Segment, AfterUnusedBits, Boolean as NoBoolean, Number}
 use Rattle.asn1show_printer.specs.declared.diagnostic.Diagnostic.TheVariants.{Null as NoNull, Bits as NoBits, NoComponent, LongComponent, CutComponent, NoTime}
 use Rattle.asn1show_printer.specs.declared.diagnostic.Diagnostic.TheVariants.{Characters as NoCharacters, Definite, Uncut, NotInModule}
+use Rattle.asn1show_printer.specs.declared.diagnostic.Diagnostic.TheVariants.{Missing, Repeated, Bounds, Size, Item, Default, LastZeros}
 
 -- the contents of a bit string: the count of unused bits in the last octet, and the octets
 pub record AreBits (m : BERMode) (c : List ℕ) : Type 0 where
@@ -123,6 +124,13 @@ is_of_ber NoTime = true
 is_of_ber Definite = false
 is_of_ber Uncut = false
 is_of_ber NotInModule = false
+is_of_ber Missing = false
+is_of_ber Repeated = false
+is_of_ber Bounds = false
+is_of_ber Size = false
+is_of_ber Item = false
+is_of_ber Default = false
+is_of_ber LastZeros = false
 
 -- contents conform to each mode
 abbrev pub InAll : (BERMode → List ℕ → Type 0) → List ℕ → Type 0

@@ -74,8 +74,8 @@ fn late_type(number: u64) -> AsnType
     }
 }
 
-// The type with this universal number.
-fn universal_type(number: u64) -> AsnType
+/// The type with this universal number.
+pub fn universal_type(number: u64) -> AsnType
     ensures { result ≡ get_or universal_types number Unknown }
 {
     if number >= 31 {

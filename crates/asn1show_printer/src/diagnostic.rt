@@ -1,7 +1,7 @@
 //! Diagnostics of elements, and the conformance of the whole to encoding rules.
 ghost use Rattle.std.specs.Prelude.{◌≡◌, if◌then◌else◌, true, Some, None};
 ghost use Rattle.yasna_base.specs.declared.mode.BERMode.{BERMode};
-ghost use Rattle.asn1show_printer.specs.Conformance.{conforms, excludes, AreMet, IsNoted};
+ghost use Rattle.asn1show_printer.specs.Conformance.{conforms, excludes, is_of_module, AreMet, IsNoted};
 
 use yasna_base::mode::BERMode;
 
@@ -58,6 +58,20 @@ pub enum Diagnostic {
     Uncut,
     /// The type of the module has no such element there.
     NotInModule,
+    /// A part is missing that the type of the module has.
+    Missing,
+    /// A part of a SET is there twice.
+    Repeated,
+    /// A number is out of the bounds of its type (X.680, 51.4).
+    Bounds,
+    /// The size isn't one that the type has (X.680, 51.5).
+    Size,
+    /// No item of an ENUMERATED has the number.
+    Item,
+    /// A part is encoded although its value is that of its DEFAULT (X.690, 11.5).
+    Default,
+    /// Zeros are after the last one of named bits (X.690, 11.2.2).
+    LastZeros,
 }
 
 impl Diagnostic {
@@ -89,7 +103,29 @@ impl Diagnostic {
             Diagnostic::Definite => "not CER: definite length",
             Diagnostic::Uncut => "not CER: not cut into segments of 1000 octets",
             Diagnostic::NotInModule => "not in the module",
+            Diagnostic::Missing => "not in the module: a part is missing",
+            Diagnostic::Repeated => "not in the module: a part is there twice",
+            Diagnostic::Bounds => "not in the module: a number out of its bounds",
+            Diagnostic::Size => "not in the module: another size",
+            Diagnostic::Item => "not in the module: a number of no item",
+            Diagnostic::Default => "not DER: the value is the default",
+            Diagnostic::LastZeros => "not DER: zeros after the last one of named bits",
         }
+    }
+
+    /// Whether the element isn't as the module says.
+    pub fn is_of_module(self) -> bool
+        ensures { result ≡ is_of_module self }
+    {
+        matches!(
+            self,
+            Diagnostic::NotInModule
+                | Diagnostic::Missing
+                | Diagnostic::Repeated
+                | Diagnostic::Bounds
+                | Diagnostic::Size
+                | Diagnostic::Item
+        )
     }
 
     /// Whether an element with this diagnostic isn't in a mode.
@@ -102,8 +138,15 @@ impl Diagnostic {
                 mode == BERMode::Der
             }
             Diagnostic::Definite | Diagnostic::Uncut => mode == BERMode::Cer,
-            Diagnostic::NotInModule => false,
-            Diagnostic::LongLength
+            Diagnostic::NotInModule
+            | Diagnostic::Missing
+            | Diagnostic::Repeated
+            | Diagnostic::Bounds
+            | Diagnostic::Size
+            | Diagnostic::Item => false,
+            Diagnostic::Default
+            | Diagnostic::LastZeros
+            | Diagnostic::LongLength
             | Diagnostic::Truth
             | Diagnostic::Padding
             | Diagnostic::Order

@@ -4,6 +4,7 @@ use crate::line::LineBuffer;
 use crate::type_names::type_name;
 use asn1show_schema::Label;
 use asn1show_walk::Item;
+use std::fmt;
 use yasna_base::tag::{PCBit, Tag, TagClass};
 use yasna_base::tags::TAG_NULL;
 
@@ -25,13 +26,25 @@ fn name_of(tag: Tag) -> Option<&'static str> {
     }
 }
 
+/// A tag, which is shown as the name of its type, or in brackets.
+#[derive(Clone, Copy)]
+pub struct ShownTag(pub Tag);
+
+impl fmt::Display for ShownTag {
+    fn fmt<W: fmt::Write>(&self, f: &mut fmt::Formatter<W>) -> fmt::Result {
+        let tag = self.0;
+        if let Some(name) = name_of(tag) {
+            return f.write_str(name);
+        }
+        let prefix = class_prefix(tag.tag_class);
+        write!(f, "{prefix}{}]", tag.tag_number)
+    }
+}
+
 /// Writes the name of the type with a tag, or the tag in brackets.
 pub fn write_tag(line: &mut LineBuffer, tag: Tag) {
-    if let Some(name) = name_of(tag) {
-        return line.write_str(name);
-    }
-    line.write_str(class_prefix(tag.tag_class));
-    write!(line, "{}]", tag.tag_number)
+    let shown = ShownTag(tag);
+    write!(line, "{shown}")
 }
 
 fn write_size(line: &mut LineBuffer, size: Option<usize>) {

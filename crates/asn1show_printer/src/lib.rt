@@ -6,6 +6,8 @@
 //! |---|---|
 //! | `asn_type` | the types of X.680 |
 //! | `value` | the values of primitive elements |
+//! | `elements` | the elements in contents |
+//! | `module_parts` | what a module says of an element besides its names |
 //! | `sets` | the order of a SET, and how CER cuts strings |
 //! | `diagnostic` | diagnostics of elements, and the conformance of the whole |
 //! | `selection` | what is shown of elements |
@@ -24,9 +26,11 @@
 mod asn_type;
 mod diagnostic;
 mod dump;
+mod elements;
 mod extraction;
 mod head;
 mod line;
+mod module_parts;
 mod output;
 mod printer;
 mod report;
@@ -39,7 +43,7 @@ pub use asn1show_names::Names;
 pub use asn1show_schema::{Label, Schema};
 pub use diagnostic::{Conformance, Diagnostic};
 pub use dump::{octets_of, own_len};
-pub use head::write_tag;
+pub use head::{ShownTag, write_tag};
 pub use line::LineBuffer;
 pub use output::Output;
 pub use printer::{Printer, Source};

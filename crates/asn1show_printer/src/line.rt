@@ -1,5 +1,5 @@
 //! A line as it is made.
-ghost use Rattle.std.specs.Prelude.{◌≡◌, true, IfErr};
+ghost use Rattle.std.specs.Prelude.{◌≡◌, true, length, IfErr};
 ghost use Rattle.asn1show_walk.specs.Errors.{IsExternal};
 
 use asn1show_walk::WalkError;
@@ -47,6 +47,13 @@ impl LineBuffer {
     /// Appends a text as it is.
     pub fn write_str(&mut self, text: &str) {
         self.write_all(text.as_bytes())
+    }
+
+    /// How many octets the text has so far.
+    pub fn len(&self) -> usize
+        ensures { result ≡ length self.now.text.items }
+    {
+        self.text.len()
     }
 
     /// The text, if there was memory for all of it.

@@ -4,14 +4,18 @@ ghost use Rattle.asn1show_printer.specs.Conformance.{AreMet, IsDiagnosed};
 ghost use Rattle.asn1show_printer.specs.Selection.{is_before, keeps, position_after, start_of};
 ghost use Rattle.asn1show_walk.specs.Errors.{IsExternal};
 
-use crate::asn_type::{AsnType, type_of};
+use crate::asn_type::AsnType;
 use crate::diagnostic::{Conformance, Diagnostic, unless};
 use crate::line::LineBuffer;
+use crate::module_parts::{
+    diagnostic_in, has_list_size, is_default, labelled_type, write_names, write_parts,
+};
 use crate::output::Output;
 use crate::selection::Position;
 use crate::sets::{are_cer_segments, order_of, stays_whole};
 use crate::value::{Style, is_shown_as_text, write_quoted, write_value};
-use asn1show_schema::{Fields, Label};
+use asn1show_schema::schema::Contents;
+use asn1show_schema::{Fields, Label, Schema};
 use asn1show_walk::{Item, WalkError};
 use std::alloc::AllocError;
 use std::io::Write;
@@ -23,6 +27,8 @@ use yasna_base::tags::{TAG_BITSTRING, TAG_OCTETSTRING};
 pub struct Report<'n> {
     /// What is written of the element.
     pub(crate) line: LineBuffer,
+    // Where the value of the element ends on the line, before what its module says of it.
+    value_end: usize,
     // The diagnostics of the element that are shown.
     diagnostics: Vec<Diagnostic>,
     style: Style<'n>,
@@ -47,6 +53,7 @@ impl<'n> Report<'n> {
     pub fn new(style: Style<'n>) -> Report<'n> {
         Report {
             line: LineBuffer::new(style.alloc),
+            value_end: 0,
             diagnostics: Vec::new(style.alloc),
             style,
             position: style.view.selection.start_position(),
@@ -64,7 +71,7 @@ impl<'n> Report<'n> {
         let Some(fields) = &mut self.fields else {
             return Label::unnamed();
         };
-        match fields.enter(item.depth, item.tag) {
+        match fields.enter(item.depth, item.tag, item.contents) {
             Ok(label) => label,
             Err(_) => {
                 self.line.fail_out_of_memory();
@@ -75,13 +82,14 @@ impl<'n> Report<'n> {
 
     /// Appends the value of an element with this label to the line, and notes its diagnostics.
     pub fn describe(&mut self, item: &Item<'_>, label: Label<'_>) {
-        let kind = type_of(item.tag);
+        let kind = labelled_type(item, label);
         self.element = Conformance::new();
         self.diagnostics.clear();
-        self.print_contents(item, kind);
+        self.print_contents(item, kind, label);
         self.diagnose_header(item);
         self.diagnose(item, cer_diagnostic(item, kind));
         self.diagnose(item, unless(!label.is_unknown, Diagnostic::NotInModule));
+        self.diagnose_by_module(item, label);
         if self.around.push(segments_of(item.bit, kind)).is_err() {
             self.line.fail_out_of_memory();
         }
@@ -94,11 +102,32 @@ impl<'n> Report<'n> {
         self.line.text()
     }
 
+    /// The value of a primitive element without the names that its module has for it, or an error if memory ran out.
+    pub fn plain_value(&self) -> Result<&[u8], WalkError>
+        ensures { IfErr result IsExternal }
+    {
+        let text = self.line.text()?;
+        Ok(text.get(..self.value_end).unwrap_or(text))
+    }
+
     /// The diagnostics of the element that are shown.
     pub fn diagnostics(&self) -> &[Diagnostic]
         ensures { result.now ≡ self.now.diagnostics.items }
     {
         self.diagnostics.as_slice()
+    }
+
+    /// The names that lead to the element in the module, and the indices of elements of lists.
+    pub fn path(&self) -> Result<Vec<u8>, WalkError>
+        ensures { IfErr result IsExternal }
+    {
+        let Some(fields) = &self.fields else {
+            return Ok(Vec::new(self.style.alloc));
+        };
+        match fields.path(self.style.alloc) {
+            Ok(path) => Ok(path),
+            Err(_) => Err(WalkError::Memory),
+        }
     }
 
     /// Whether the element is a segment of a string.
@@ -192,19 +221,49 @@ impl<'n> Report<'n> {
         !before
     }
 
-    fn print_contents(&mut self, item: &Item<'_>, kind: AsnType) {
+    fn print_contents(&mut self, item: &Item<'_>, kind: AsnType, label: Label<'_>) {
         match item.bit {
-            PCBit::Primitive => self.print_primitive(item, kind),
+            PCBit::Primitive => self.print_primitive(item, kind, label),
             PCBit::Constructed => self.diagnose_constructed(item, kind),
         }
     }
 
-    fn print_primitive(&mut self, item: &Item<'_>, kind: AsnType) {
-        if is_shown_as_text(item.tag.tag_class, item.contents) {
-            return write_quoted(&mut self.line, item.contents);
+    fn print_primitive(&mut self, item: &Item<'_>, kind: AsnType, label: Label<'_>) {
+        if matches!(kind, AsnType::Unknown) && is_shown_as_text(item.tag.tag_class, item.contents) {
+            write_quoted(&mut self.line, item.contents);
+            self.value_end = self.line.len();
+            return;
         }
         let diagnostic = write_value(&mut self.line, self.style, kind, item.contents);
-        self.diagnose(item, diagnostic)
+        self.diagnose(item, diagnostic);
+        self.value_end = self.line.len();
+        if let Some(schema) = self.style.view.schema {
+            write_names(&mut self.line, schema, label, item.contents);
+        }
+    }
+
+    // Notes what of an element isn't as the module says, and prints the parts that aren't there.
+    fn diagnose_by_module(&mut self, item: &Item<'_>, label: Label<'_>) {
+        let Some(schema) = self.style.view.schema else {
+            return;
+        };
+        match item.bit {
+            PCBit::Primitive => {
+                self.diagnose(item, diagnostic_in(schema, label, item.contents));
+                self.diagnose(item, unless(!is_default(item, label), Diagnostic::Default));
+            }
+            PCBit::Constructed => self.diagnose_parts(item, label.contents, schema),
+        }
+    }
+
+    // Notes what is wrong with the parts of an element.
+    fn diagnose_parts(&mut self, item: &Item<'_>, contents: Contents, schema: &Schema) {
+        let octets = item.contents;
+        let errors = write_parts(&mut self.line, self.style.alloc, schema, contents, octets);
+        self.diagnose(item, unless(!errors.is_missing, Diagnostic::Missing));
+        self.diagnose(item, unless(!errors.is_repeated, Diagnostic::Repeated));
+        let has_size = has_list_size(contents, octets);
+        self.diagnose(item, unless(has_size, Diagnostic::Size));
     }
 
     fn diagnose_constructed(&mut self, item: &Item<'_>, kind: AsnType) {

@@ -118,11 +118,12 @@ impl Selection {
         ensures { result ≡ shows self in_string diagnostic }
     {
         match self {
-            Selection::Elements(_) => match diagnostic {
-                Diagnostic::NotInModule => true,
-                other => other.excludes(BERMode::Der),
-            },
-            Selection::Defects(mode) => !in_string && diagnostic.excludes(mode),
+            Selection::Elements(_) => {
+                diagnostic.is_of_module() || diagnostic.excludes(BERMode::Der)
+            }
+            Selection::Defects(mode) => {
+                !in_string && (diagnostic.is_of_module() || diagnostic.excludes(mode))
+            }
             Selection::Bytes(..) => false,
         }
     }

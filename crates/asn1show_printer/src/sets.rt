@@ -1,42 +1,15 @@
 //! The order of a SET and of a SET OF (X.690, 10.3 and 11.6), and how CER cuts strings (X.690, 9.2).
 
 use crate::diagnostic::Diagnostic;
+use crate::elements::Elements;
 use std::alloc::{AllocError, Global};
 use std::cmp::Ordering;
 use yasna_base::bytes::order::compare_octets;
-use yasna_base::mode::BERMode;
 use yasna_base::tag::PCBit;
-use yasna_bytes::bytes::cursor::Cursor;
-use yasna_bytes::bytes::walk::{RawElement, raw_element};
-
-// The elements from a place on, up to the first malformed one.
-#[derive(Drop)]
-struct Elements<'a> {
-    left: &'a [u8],
-}
-
-impl<'a> Iterator for Elements<'a> {
-    ghost use Rattle.std.specs.Prelude.{length};
-    ghost use Rattle.std.specs.Iterator.{at_most};
-
-    type Item = RawElement<'a>;
-
-    ghost remaining = { λ s. at_most (length s.left.now) };
-
-    fn next(&mut self) -> Option<RawElement<'a>> {
-        match raw_element(Cursor::start(self.left, BERMode::Ber)) {
-            Ok((element, rest)) => {
-                self.left = rest;
-                Some(element)
-            }
-            Err(_) => None,
-        }
-    }
-}
 
 // Whether the elements in contents are in an order that DER has: by their tags, which differ in a SET, or by their octets, as in a SET OF.
 fn are_in_order(contents: &[u8]) -> bool {
-    let mut elements = Elements { left: contents };
+    let mut elements = Elements::new(contents);
     let Some(mut previous) = elements.next() else {
         return true;
     };
@@ -52,7 +25,7 @@ fn are_in_order(contents: &[u8]) -> bool {
 // Whether two of the elements in contents have one tag, as no components of a SET have (X.680, 27.3).
 fn has_repeated_tag(alloc: Global, contents: &[u8]) -> Result<bool, AllocError> {
     let mut tags = Vec::new(alloc);
-    for element in (Elements { left: contents }) {
+    for element in Elements::new(contents) {
         tags.push(element.tag)?;
     }
     let count = tags.len();
@@ -85,7 +58,7 @@ pub fn stays_whole(contents: &[u8]) -> bool {
 pub fn are_cer_segments(contents: &[u8]) -> bool {
     let mut count: u64 = 0;
     let mut is_full = true;
-    for segment in (Elements { left: contents }) {
+    for segment in Elements::new(contents) {
         let size = segment.payload.len();
         if segment.bit == PCBit::Constructed || !is_full || size == 0 || size > FULL {
             return false;

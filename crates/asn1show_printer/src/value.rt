@@ -3,7 +3,7 @@ ghost use Rattle.std.specs.Prelude.{◌≡◌, ◌↔◌, ◌∷◌, [], false, 
 ghost use Rattle.yasna_base.specs.Integer.{IsMinimal};
 ghost use Rattle.asn1show_printer.specs.Contents.{AreCharacters, DiagnosesOf, line_is_out_of_memory};
 ghost use Rattle.asn1show_printer.specs.Shown.{longest_decimal, HasCharacters, IsCharactersOf, IsShownAsText, IsShownInDecimal};
-ghost use Rattle.asn1show_printer.specs.declared.asn_type.AsnType.TheVariants.{Bits, Boolean, GeneralizedTime, Text};
+ghost use Rattle.asn1show_printer.specs.declared.asn_type.AsnType.TheVariants.{Bits, Boolean, GeneralizedTime, Oid, Relative, Text};
 
 mod arcs;
 mod number;
@@ -210,6 +210,20 @@ pub fn characters_of<'a>(item: &Item<'a>) -> Option<&'a str>
     }
 }
 
+// What is wrong with the contents of an OBJECT IDENTIFIER.
+fn identifier_diagnostic(contents: &[u8]) -> Option<Diagnostic>
+    ensures { DiagnosesOf Oid contents.now result }
+{
+    unless(are_components(contents), components_diagnostic(contents))
+}
+
+// What is wrong with the contents of a RELATIVE-OID.
+fn relative_diagnostic(contents: &[u8]) -> Option<Diagnostic>
+    ensures { DiagnosesOf Relative contents.now result }
+{
+    unless(are_components(contents), components_diagnostic(contents))
+}
+
 // Writes a time, if there was memory to read it.
 fn write_time(line: &mut LineBuffer, alloc: Global, contents: &[u8]) -> Option<Diagnostic>
     ensures { line_is_out_of_memory line.new ≡ false → DiagnosesOf GeneralizedTime contents.now result }
@@ -244,11 +258,11 @@ pub fn write_value(
         AsnType::Null => unless(contents.is_empty(), Diagnostic::Null),
         AsnType::Oid => {
             write_oid(line, alloc, names, contents);
-            unless(are_components(contents), components_diagnostic(contents))
+            identifier_diagnostic(contents)
         }
         AsnType::Relative => {
             write_relative(line, alloc, contents);
-            unless(are_components(contents), components_diagnostic(contents))
+            relative_diagnostic(contents)
         }
         AsnType::Text(characters) => write_text(line, characters, contents),
         AsnType::Whole(characters) => write_text(line, characters, contents),

@@ -5,7 +5,7 @@ use Rattle.asn1show_schema.specs.declared.matching.Match.{Match}
 use Rattle.asn1show_schema.specs.declared.matching.Match.TheVariants.{Of, Addition, Unknown, Unspecified}
 use Rattle.asn1show_schema.specs.declared.schema.Beginning.{Beginning}
 use Rattle.asn1show_schema.specs.declared.schema.Contents.{Contents}
-use Rattle.asn1show_schema.specs.declared.schema.Contents.TheVariants.{Value, One, Each, InOrder, InAnyOrder}
+use Rattle.asn1show_schema.specs.declared.schema.Contents.TheVariants.{Any, Value, One, SequenceOf, SetOf, Selected, InOrder, InAnyOrder}
 
 -- an element with this tag begins so
 abbrev pub HasTag : Beginning → Tag → Type 0
@@ -13,9 +13,12 @@ HasTag b t = MatchOption b.tag ⊤ (λ own. own ≡ t)
 
 -- an element of this place is around the next one, or may be
 abbrev pub IsPlaceIn : ℕ → Contents → Type 0
-IsPlaceIn i Value = ⊥
+IsPlaceIn i Any = ⊥
+IsPlaceIn i (Value t) = ⊥
 IsPlaceIn i (One place) = i ≡ place
-IsPlaceIn i (Each place) = i ≡ place
+IsPlaceIn i (SequenceOf place size) = i ≡ place
+IsPlaceIn i (SetOf place size) = i ≡ place
+IsPlaceIn i (Selected place) = i ≡ place
 IsPlaceIn i (InOrder parts) = (parts.first ≤ i) × (i < parts.end)
 IsPlaceIn i (InAnyOrder parts) = (parts.first ≤ i) × (i < parts.end)
 

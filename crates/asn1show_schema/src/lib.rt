@@ -6,12 +6,16 @@
 //! |---|---|
 //! | `schema` | the tables |
 //! | `matching` | the part of a type that an element may be |
+//! | `values` | whether values are as their types say |
 //! | `fields` | the elements that are open, and what the next one is |
 #![tactic(auto)]
 
 mod fields;
 mod matching;
 pub mod schema;
+mod values;
 
 pub use fields::{Fields, Label};
+pub use matching::{Match, match_in, rest_of};
 pub use schema::Schema;
+pub use values::{ValueError, error_of, has_number, has_size, name_of, number_of};

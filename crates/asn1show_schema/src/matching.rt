@@ -1,7 +1,7 @@
 //! The part of a type that an element may be.
 ghost use Rattle.std.specs.Prelude.{◌≡◌, ◌↔◌, ◌≤◌, ◌<◌, ⊤, IsTrue, MatchOption};
 ghost use Rattle.asn1show_schema.specs.Matching.{HasTag, IsMatchIn, IsNoPlace};
-ghost use Rattle.asn1show_schema.specs.declared.schema.Contents.TheVariants.{InAnyOrder, InOrder, One};
+ghost use Rattle.asn1show_schema.specs.declared.schema.Contents.TheVariants.{InAnyOrder, InOrder, One, Selected};
 
 use crate::schema::{Beginning, Contents, Parts, Place, Schema};
 use yasna_base::tag::Tag;
@@ -56,6 +56,16 @@ fn match_place(schema: &Schema, index: usize, tag: Tag) -> Match
     }
 }
 
+// What an element is where that of one place may be, or another one.
+fn match_selected(schema: &Schema, index: usize, tag: Tag) -> Match
+    ensures { IsMatchIn (Selected index) tag result }
+{
+    match match_place(schema, index, tag) {
+        Match::Of(place, beginning) => Match::Of(place, beginning),
+        _ => Match::Unspecified,
+    }
+}
+
 // Whether elements may be added before a place.
 fn is_extended_before(parts: Parts, index: usize) -> bool {
     match parts.extension {
@@ -105,14 +115,28 @@ fn match_any(schema: &Schema, parts: Parts, tag: Tag) -> Match
     match_none(parts, parts.end)
 }
 
+/// What is left of what is around an element, after it.
+pub fn rest_of(around: Contents, found: Match) -> Contents {
+    match (around, found) {
+        (Contents::InOrder(parts), Match::Of(index, _)) => Contents::InOrder(Parts {
+            first: index.saturating_add(1),
+            end: parts.end,
+            extension: parts.extension,
+        }),
+        _ => around,
+    }
+}
+
 /// What an element with this tag is in what is around it.
 pub fn match_in(schema: &Schema, around: Contents, tag: Tag) -> Match
     ensures { IsMatchIn around tag result }
 {
     match around {
-        Contents::Value => Match::Unspecified,
+        Contents::Any | Contents::Value(_) => Match::Unspecified,
         Contents::One(index) => match_place(schema, index, tag),
-        Contents::Each(index) => match_place(schema, index, tag),
+        Contents::SequenceOf(index, _) => match_place(schema, index, tag),
+        Contents::SetOf(index, _) => match_place(schema, index, tag),
+        Contents::Selected(index) => match_selected(schema, index, tag),
         Contents::InOrder(parts) => match_next(schema, parts, tag),
         Contents::InAnyOrder(parts) => match_any(schema, parts, tag),
     }

@@ -153,7 +153,7 @@ fn described(alloc: Global, schema: &Schema, elements: &[Element]) -> String {
     let mut text = String::new(alloc);
     let mut fields = Fields::new(alloc, schema);
     for (depth, tag) in elements {
-        if let Ok(label) = fields.enter(*depth, *tag) {
+        if let Ok(label) = fields.enter(*depth, *tag, &[]) {
             describe(&mut text, label);
         }
     }
@@ -174,7 +174,7 @@ fn is_described<'a>(
     let Some(position) = position_of(definitions, row.1) else {
         return false;
     };
-    match schema_of(alloc, definitions, position) {
+    match schema_of(alloc, modules, &resolved, position) {
         Ok(schema) => described(alloc, &schema, row.2).as_str() == row.3,
         Err(_) => false,
     }

@@ -4,6 +4,8 @@
 //! |---|---|
 //! | `described` | resolved types, described in one line each |
 //! | `fields` | which part of a type each element is |
+//! | `listing` | what is listed and rejected of elements by their module |
+//! | `schemas` | the tables of a module's types |
 //! | `sources` | what `asn1_source` writes for types |
 //! | `syntax` | lexical items and trees of `asn1_syntax` |
 //! | `types` | what `asn1_types` resolves modules to |
@@ -13,6 +15,10 @@
 mod described;
 #[cfg(test)]
 mod fields;
+#[cfg(test)]
+mod listing;
+#[cfg(test)]
+mod schemas;
 #[cfg(test)]
 mod sources;
 #[cfg(test)]

@@ -1,6 +1,6 @@
 use Rattle.std.proofs.Common.{rules, ◌<◌, List, ℕ, length, subst}
 use Rattle.asn1show_printer.proofs.Prefix.{taken_shorter}
-use Rattle.asn1show_printer.proofs.sets.ElementsIterator.next.Goals as goal
+use Rattle.asn1show_printer.proofs.elements.ElementsIterator.next.Goals as goal
 
 pub returns-in-Ok-clause-goes : goal.returns-in-Ok-clause-goes
 returns-in-Ok-clause-goes c =

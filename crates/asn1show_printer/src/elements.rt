@@ -1,0 +1,37 @@
+//! The elements in contents, one after the other.
+
+use yasna_base::mode::BERMode;
+use yasna_bytes::bytes::cursor::Cursor;
+use yasna_bytes::bytes::walk::{RawElement, raw_element};
+
+/// The elements from a place on, up to the first malformed one.
+#[derive(Drop)]
+pub struct Elements<'a> {
+    left: &'a [u8],
+}
+
+impl<'a> Elements<'a> {
+    /// The elements in contents.
+    pub fn new(contents: &'a [u8]) -> Elements<'a> {
+        Elements { left: contents }
+    }
+}
+
+impl<'a> Iterator for Elements<'a> {
+    ghost use Rattle.std.specs.Prelude.{length};
+    ghost use Rattle.std.specs.Iterator.{at_most};
+
+    type Item = RawElement<'a>;
+
+    ghost remaining = { λ s. at_most (length s.left.now) };
+
+    fn next(&mut self) -> Option<RawElement<'a>> {
+        match raw_element(Cursor::start(self.left, BERMode::Ber)) {
+            Ok((element, rest)) => {
+                self.left = rest;
+                Some(element)
+            }
+            Err(_) => None,
+        }
+    }
+}
