@@ -14,7 +14,7 @@
 # | mutants | the prover rejects each edit of crates/CRATE/must-fail/ |
 # | tests | each test passes |
 # | programs | each program writes what its file stdout holds, as two compilers build it |
-# | modules | each crate of modules/ is what asn1compile writes for its module, and asn1compile ends as docs/MODULES.md says |
+# | modules | each crate of modules/ is what asn1compile writes for its module, message_modules has the lines of modules/, and asn1compile ends as docs/MODULES.md says |
 # | memory | each request for memory is refused once: the programs report it, and nothing else changes |
 #
 # First it looks for the commands that it needs, and says how many checks run side by side. The last line is `N passed, N failed`, over

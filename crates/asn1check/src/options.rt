@@ -1,6 +1,7 @@
 //! The options of the command line.
 
 use crate::message_type::MessageType;
+use crate::subject::Subject;
 use asn1_input::InputFormat;
 use clap::error::ErrorKind;
 use clap::{Arg, ArgAction, ArgMatches, Command, Error};
@@ -11,33 +12,43 @@ use yasna::BERMode;
 /// What the arguments ask for.
 #[derive(Drop)]
 pub struct Options<'a> {
-    /// The type of each message, or None if the label of each block of PEM names it.
+    /// The type of each message, or None if the label of each block of PEM names it, or a module has it.
     pub kind: Option<MessageType>,
     /// The format of each input, or None if it is to be detected.
     pub input_format: Option<InputFormat>,
     /// Whether the DER encoding of each message is written.
     pub encode: bool,
+    /// The files to read, of which `-` is standard input.
+    pub files: Vec<&'a str>,
     // The encoding rules that are asked for.
     mode: Option<BERMode>,
     matches: ArgMatches<'a>,
 }
 
 impl<'a> Options<'a> {
-    /// The files to read, of which `-` is standard input, or None if none is named.
-    pub fn files(&self) -> Option<&[&'a str]> {
-        self.matches.get_strs("FILE")
+    /// The files of the modules whose type is checked, if there are any.
+    pub fn modules(&self) -> Option<&[&'a str]> {
+        self.matches.get_strs("module")
     }
 
-    /// The encoding rules by which messages of a type are read: those that are asked for, else those that they are sent in.
-    pub fn mode_of(&self, kind: MessageType) -> BERMode {
-        match self.mode {
-            Some(mode) => mode,
-            None => kind.mode(),
+    /// The type of a module that is checked, if one is.
+    pub fn type_name(&self) -> Option<&'a str> {
+        self.matches.get_str("type")
+    }
+
+    /// The encoding rules by which messages are read: those that are asked for, else those that they are sent in, or DER for a type of a module.
+    pub fn mode_of(&self, subject: Subject<'_>) -> BERMode {
+        match (self.mode, subject) {
+            (Some(mode), _) => mode,
+            (None, Subject::Message(kind)) => kind.mode(),
+            (None, Subject::Module(_)) => BERMode::Der,
         }
     }
 }
 
 const ENCODE_HELP: &str = "Write each message in DER to standard output";
+
+const NO_KIND: &str = "a KIND is expected, or --module and --type";
 
 const ABOUT: &str = "Checks that each file is messages of a type, one after the other.
 A file is bytes, hexadecimal digits or blocks of PEM, whose labels name the type.
@@ -46,25 +57,10 @@ The messages of SNMP and LDAP are read in BER, all others in DER.";
 // The kind of messages whose labels in PEM name their types.
 const ANY: &str = "any";
 
-static KINDS: [&str; 17] = [
-    "certificate",
-    "crl",
-    "csr",
-    "public-key",
-    "private-key",
-    "rsa-public-key",
-    "rsa-private-key",
-    "ec-private-key",
-    "cms",
-    "snmp-v1",
-    "snmp-v2c",
-    "ldap",
-    "ocsp-request",
-    "ocsp-response",
-    "tsp-request",
-    "tsp-response",
-    "any",
-];
+const KIND_HELP: &str =
+    "The type of the messages: certificate, crl, csr, public-key, private-key, rsa-public-key, rsa-private-key,
+ec-private-key, cms, snmp-v1, snmp-v2c, ldap, ocsp-request, ocsp-response, tsp-request, tsp-response,
+or any (that of each label)";
 
 // A flag that excludes others.
 struct FormatFlag {
@@ -100,18 +96,34 @@ fn flag<'a>(alloc: Global, name: &'static str, help: &'static str) -> Arg<'a> {
 
 fn kind_arg<'a>(alloc: Global) -> Arg<'a> {
     Arg::new(alloc, "KIND")
-        .required(true)
         .action(ArgAction::Set)
-        .value_parser(KINDS.as_slice())
-        .help("The type of the messages (any: that of each label)")
+        .help(KIND_HELP)
+}
+
+// The module and the type, of which neither is given alone.
+fn module_arg<'a>(alloc: Global) -> Result<Arg<'a>, AllocError> {
+    Arg::new(alloc, "module")
+        .long("module")
+        .value_name("FILE")
+        .action(ArgAction::Append)
+        .help("Check values of a type of this module, in place of a KIND")
+        .requires_arg("type")
+}
+
+fn type_arg<'a>(alloc: Global) -> Result<Arg<'a>, AllocError> {
+    Arg::new(alloc, "type")
+        .long("type")
+        .value_name("NAME")
+        .action(ArgAction::Set)
+        .help("The name of the type in the module")
+        .requires_arg("module")
 }
 
 fn files_arg<'a>(alloc: Global) -> Arg<'a> {
     Arg::new(alloc, "FILE")
         .action(ArgAction::Append)
         .num_args(0..)
-        .help("The files to read (- is standard input)")
-        .default_value("-")
+        .help("The files to read (standard input for - or if there is none)")
 }
 
 fn format_arg<'a>(alloc: Global, format: &FormatFlag) -> Result<Arg<'a>, AllocError> {
@@ -125,7 +137,9 @@ fn all_args<'a>(alloc: Global) -> Result<Vec<Arg<'a>>, AllocError> {
     for format in &FORMATS {
         args.push(format_arg(alloc, format)?)?;
     }
-    args.push(flag(alloc, "encode", ENCODE_HELP))?;
+    args.push(flag(alloc, "encode", ENCODE_HELP).conflicts_with("module")?)?;
+    args.push(module_arg(alloc)?)?;
+    args.push(type_arg(alloc)?)?;
     args.push(kind_arg(alloc))?;
     args.push(files_arg(alloc))?;
     Ok(args)
@@ -164,19 +178,46 @@ fn asked_format(matches: &ArgMatches<'_>) -> Option<InputFormat> {
     }
 }
 
+// The names of the files. The first one is no KIND if a module is given.
+fn files_of<'a>(alloc: Global, matches: &ArgMatches<'a>) -> Result<Vec<&'a str>, AllocError> {
+    let mut files = Vec::new(alloc);
+    if matches.contains_id("module") {
+        if let Some(first) = matches.get_str("KIND") {
+            files.push(first)?;
+        }
+    }
+    for name in matches.get_strs("FILE").unwrap_or(&[]) {
+        files.push(*name)?;
+    }
+    if files.is_empty() {
+        files.push("-")?;
+    }
+    Ok(files)
+}
+
+// Why a word is no KIND.
+fn kind_error(command: &mut Command<'_>, word: Option<&str>) -> Result<Error, AllocError> {
+    match word {
+        Some(_) => command.error(ErrorKind::InvalidValue, NO_KIND),
+        None => command.error(ErrorKind::MissingRequiredArgument, NO_KIND),
+    }
+}
+
 /// The options of a command line, which begins with the program's name.
 pub fn options_of<'a>(alloc: Global, words: &'a [String]) -> Result<Options<'a>, Error> {
     let mut command = command(alloc)?;
     let matches = command.try_get_matches_from_mut(words)?;
-    let word = matches.get_str("KIND").unwrap_or("");
-    let kind = MessageType::named(word);
-    if kind.is_none() && word != ANY {
-        return Err(command.error(ErrorKind::InvalidValue, "no such type of message")?);
+    let word = matches.get_str("KIND");
+    let kind = MessageType::named(word.unwrap_or(""));
+    let is_any = matches.contains_id("module") || word == Some(ANY);
+    if kind.is_none() && !is_any {
+        return Err(kind_error(&mut command, word)?);
     }
     Ok(Options {
         kind,
         input_format: asked_format(&matches),
         encode: matches.get_flag("encode"),
+        files: files_of(alloc, &matches)?,
         mode: asked_mode(&matches),
         matches,
     })

@@ -1,0 +1,30 @@
+//! The lines of `modules/PKCS-10.asn1`. `ci/embed_modules.py` writes this file.
+
+/// The lines.
+pub static PKCS10_LINES: [&str; 25] = [
+    "PKCS-10 { iso(1) member-body(2) us(840) rsadsi(113549) pkcs(1) pkcs-10(10) modules(1) pkcs-10(1) }",
+    "",
+    "DEFINITIONS IMPLICIT TAGS ::=",
+    "",
+    "BEGIN",
+    "",
+    "IMPORTS",
+    "    AlgorithmIdentifier, Attribute, Name, SubjectPublicKeyInfo",
+    "        FROM PKIX1Explicit88 { iso(1) identified-organization(3) dod(6) internet(1) security(5) mechanisms(5) pkix(7) id-mod(0)",
+    "            id-pkix1-explicit(18) };",
+    "",
+    "CertificationRequest ::= SEQUENCE {",
+    "    certificationRequestInfo  CertificationRequestInfo,",
+    "    signatureAlgorithm        AlgorithmIdentifier,",
+    "    signature                 BIT STRING }",
+    "",
+    "CertificationRequestInfo ::= SEQUENCE {",
+    "    version        INTEGER { v1(0) } (v1, ...),",
+    "    subject        Name,",
+    "    subjectPKInfo  SubjectPublicKeyInfo,",
+    "    attributes     [0] Attributes }",
+    "",
+    "Attributes ::= SET OF Attribute",
+    "",
+    "END",
+];
