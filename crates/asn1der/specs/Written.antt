@@ -12,13 +12,13 @@ labelled None der = der
 labelled (Some label) der = block label.now der
 
 -- the output is the encoding in DER of the elements in BER that are the input, with this label
-pub record IsWritten (label : Option (Bor (List ℕ))) (input output : List ℕ) : Type 0 where
+pub record IsOutput (label : Option (Bor (List ℕ))) (input output : List ℕ) : Type 0 where
   pub der : List ℕ
   pub converts : Converts input der
   pub labels : output ≡ labelled label der
 
 -- the output is this of the bytes that a text in hexadecimal encodes
-pub record IsWrittenOfHex (label : Option (Bor (List ℕ))) (input output : List ℕ) : Type 0 where
+pub record IsOutputOfHex (label : Option (Bor (List ℕ))) (input output : List ℕ) : Type 0 where
   pub bytes : List ℕ
   pub encodes : IsHex (text_of input) bytes
-  pub written : IsWritten label bytes output
+  pub written : IsOutput label bytes output

@@ -1,6 +1,6 @@
 //! Bytes as they are written: their elements in DER, or a block of PEM with these.
-ghost use Rattle.std.specs.Prelude.{◌≡◌, ◌⊎◌, IfErr, IfOk};
-ghost use Rattle.asn1der.specs.Written.{labelled, IsWritten};
+ghost use Rattle.std.specs.Prelude.{◌≡◌, ◌⊎◌, IfErr, IfOk, None};
+ghost use Rattle.asn1der.specs.Written.{labelled, IsOutput};
 
 use crate::options::Options;
 use crate::origin::Origin;
@@ -8,6 +8,8 @@ use crate::pem::push_block;
 use asn1der_convert::ambiguity::{Ambiguities, Ambiguity};
 use asn1der_convert::conversion::{Converted, convert};
 use asn1der_convert::error::ConvertError;
+use asn1der_typed::{TypedError, convert_by_type};
+use asn1show_schema::Schema;
 use program_io::ProgramError;
 use std::io::Write;
 
@@ -55,14 +57,14 @@ fn labelled(rt: &HostRuntime, options: &Options<'_>, bytes: Vec<u8>) -> Result<V
     }
 }
 
-/// What is written of bytes. Else the errors are reported, and the exit status is returned.
-pub fn written(
+// What is written of bytes of no known type. Else the errors are reported, and the exit status is returned.
+fn written(
     rt: &HostRuntime,
     options: &Options<'_>,
     origin: Origin<'_>,
     bytes: &[u8],
 ) -> Result<Vec<u8>, u8>
-    ensures output { IfOk result (λ output. IsWritten options.now.label bytes.now output.items) }
+    ensures output { IfOk result (λ output. IsOutput options.now.label bytes.now output.items) }
     ensures status { IfErr result (λ status. (status ≡ 1) ⊎ (status ≡ 3)) }
 {
     match convert(rt.alloc(), bytes) {
@@ -75,5 +77,44 @@ pub fn written(
             labelled(rt, options, bytes)
         }
         Err(error) => Err(reject(rt, origin, &error)),
+    }
+}
+
+// Reports why there are no values of a type, and returns the status.
+fn reject_typed(rt: &HostRuntime, origin: Origin<'_>, error: &TypedError) -> u8 {
+    if error.is_memory() {
+        return ProgramError::Memory.report(rt);
+    }
+    let _ = writeln!(rt.stderr(), "{origin}{error}");
+    REJECTED
+}
+
+// What is written of bytes that are values of a type. Else the error is reported, and the exit status is returned.
+fn written_by_type(
+    rt: &HostRuntime,
+    options: &Options<'_>,
+    schema: &Schema,
+    origin: Origin<'_>,
+    bytes: &[u8],
+) -> Result<Vec<u8>, u8> {
+    match convert_by_type(rt.alloc(), schema, bytes) {
+        Ok(converted) => labelled(rt, options, converted),
+        Err(error) => Err(reject_typed(rt, origin, &error)),
+    }
+}
+
+/// What is written of bytes, which are values of a type if it is given. Else the errors are reported, and the exit status is returned.
+pub fn written_as(
+    rt: &HostRuntime,
+    options: &Options<'_>,
+    schema: Option<&Schema>,
+    origin: Origin<'_>,
+    bytes: &[u8],
+) -> Result<Vec<u8>, u8>
+    ensures { schema.entry ≡ None → IfOk result (λ output. IsOutput options.now.label bytes.now output.items) }
+{
+    match schema {
+        Some(schema) => written_by_type(rt, options, schema, origin, bytes),
+        None => written(rt, options, origin, bytes),
     }
 }

@@ -1,12 +1,13 @@
 //! What is written of an input: of its bytes, of those that its digits say, or of those of each block of PEM.
-ghost use Rattle.std.specs.Prelude.{◌≡◌, IfOk, Some};
+ghost use Rattle.std.specs.Prelude.{◌≡◌, IfOk, None, Some};
 ghost use Rattle.asn1_input.specs.declared.input_format.InputFormat.TheVariants.{Bytes, Hex};
-ghost use Rattle.asn1der.specs.Written.{IsWritten, IsWrittenOfHex};
+ghost use Rattle.asn1der.specs.Written.{IsOutput, IsOutputOfHex};
 
-use crate::conversion::{REJECTED, written};
+use crate::conversion::{REJECTED, written_as};
 use crate::options::Options;
 use crate::origin::Origin;
 use asn1_input::{Block, InputFormat, PemReader, cut_line, decode_hex, format_of, text_of};
+use asn1show_schema::Schema;
 use asn1show_walk::WalkError;
 use program_io::ProgramError;
 use std::io::Write;
@@ -34,6 +35,7 @@ fn reject_text(rt: &HostRuntime, origin: Origin<'_>, error: &WalkError) -> u8 {
 fn take_block(
     rt: &HostRuntime,
     options: &Options<'_>,
+    schema: Option<&Schema>,
     name: Option<&str>,
     blocks: &mut Blocks,
     block: &Block<'_>,
@@ -44,7 +46,7 @@ fn take_block(
         block: Some(blocks.count),
     };
     let taken = match &block.bytes {
-        Ok(bytes) => written(rt, options, origin, bytes.as_slice()),
+        Ok(bytes) => written_as(rt, options, schema, origin, bytes.as_slice()),
         Err(error) => Err(reject_text(rt, origin, error)),
     };
     let status = match taken {
@@ -61,13 +63,14 @@ fn take_block(
 fn take_line<'a>(
     rt: &HostRuntime,
     options: &Options<'_>,
+    schema: Option<&Schema>,
     name: Option<&str>,
     blocks: &mut Blocks,
     reader: &mut PemReader<'a>,
     line: &'a [u8],
 ) {
     match reader.push(line) {
-        Ok(Some(block)) => take_block(rt, options, name, blocks, &block),
+        Ok(Some(block)) => take_block(rt, options, schema, name, blocks, &block),
         Ok(None) => {}
         Err(_) => blocks.status = ProgramError::Memory.report(rt),
     }
@@ -77,6 +80,7 @@ fn take_line<'a>(
 fn take_blocks(
     rt: &HostRuntime,
     options: &Options<'_>,
+    schema: Option<&Schema>,
     name: Option<&str>,
     blocks: &mut Blocks,
     input: &[u8],
@@ -86,11 +90,11 @@ fn take_blocks(
     let mut left = Some(text);
     while let Some(text) = left {
         let (line, after) = cut_line(text);
-        take_line(rt, options, name, blocks, &mut reader, line);
+        take_line(rt, options, schema, name, blocks, &mut reader, line);
         left = after;
     }
     match reader.finish(input.len()) {
-        Ok(Some(block)) => take_block(rt, options, name, blocks, &block),
+        Ok(Some(block)) => take_block(rt, options, schema, name, blocks, &block),
         Ok(None) => {}
         Err(error) => blocks.status = reject_text(rt, Origin { name, block: None }, &error),
     }
@@ -100,6 +104,7 @@ fn take_blocks(
 fn written_of_pem(
     rt: &HostRuntime,
     options: &Options<'_>,
+    schema: Option<&Schema>,
     name: Option<&str>,
     input: &[u8],
 ) -> Result<Vec<u8>, u8> {
@@ -108,7 +113,7 @@ fn written_of_pem(
         count: 0,
         status: 0,
     };
-    take_blocks(rt, options, name, &mut blocks, input);
+    take_blocks(rt, options, schema, name, &mut blocks, input);
     let Blocks { output, status, .. } = blocks;
     if status == 0 { Ok(output) } else { Err(status) }
 }
@@ -117,36 +122,40 @@ fn written_of_pem(
 fn written_of_digits(
     rt: &HostRuntime,
     options: &Options<'_>,
+    schema: Option<&Schema>,
     name: Option<&str>,
     input: &[u8],
 ) -> Result<Vec<u8>, u8>
-    ensures { IfOk result (λ output. IsWrittenOfHex options.now.label input.now output.items) }
+    ensures { schema.entry ≡ None → IfOk result (λ output. IsOutputOfHex options.now.label input.now output.items) }
 {
     let text = text_of(input);
     let origin = Origin { name, block: None };
     match decode_hex(rt.alloc(), text, input.len() - text.len()) {
-        Ok(bytes) => written(rt, options, origin, bytes.as_slice()),
+        Ok(bytes) => written_as(rt, options, schema, origin, bytes.as_slice()),
         Err(error) => Err(reject_text(rt, origin, &error)),
     }
 }
 
-/// What is written of an input. Else the errors are reported, and the exit status is returned.
+/// What is written of an input, whose elements are values of a type if it is given. Else the errors are reported, and the exit status is returned.
 pub fn written_of(
     rt: &HostRuntime,
     options: &Options<'_>,
+    schema: Option<&Schema>,
     name: Option<&str>,
     input: &[u8],
 ) -> Result<Vec<u8>, u8>
-    ensures bytes { options.now.input_format ≡ Some Bytes → IfOk result (λ output. IsWritten options.now.label input.now output.items) }
-    ensures hex { options.now.input_format ≡ Some Hex → IfOk result (λ output. IsWrittenOfHex options.now.label input.now output.items) }
+    ensures bytes { schema.entry ≡ None → options.now.input_format ≡ Some Bytes → IfOk result (λ output. IsOutput options.now.label input.now output.items) }
+    ensures hex { schema.entry ≡ None → options.now.input_format ≡ Some Hex → IfOk result (λ output. IsOutputOfHex options.now.label input.now output.items) }
 {
     let input_format = match options.input_format {
         Some(input_format) => input_format,
         None => format_of(input),
     };
     match input_format {
-        InputFormat::Bytes => written(rt, options, Origin { name, block: None }, input),
-        InputFormat::Hex => written_of_digits(rt, options, name, input),
-        InputFormat::Pem => written_of_pem(rt, options, name, input),
+        InputFormat::Bytes => {
+            written_as(rt, options, schema, Origin { name, block: None }, input)
+        },
+        InputFormat::Hex => written_of_digits(rt, options, schema, name, input),
+        InputFormat::Pem => written_of_pem(rt, options, schema, name, input),
     }
 }

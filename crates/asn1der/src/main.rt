@@ -7,7 +7,7 @@
 //! | 2 | usage error |
 //! | 3 | I/O error, or out of memory |
 //!
-//! The crate `asn1der_convert` converts bytes, `asn1_input` reads digits and PEM, and `program_io` holds the ends.
+//! The crate `asn1der_convert` converts bytes, `asn1der_typed` those of a type of a module, `asn1_input` reads digits and PEM, and `program_io` holds the ends.
 //!
 //! | Module | Holds |
 //! |---|---|
@@ -24,19 +24,27 @@ mod options;
 mod origin;
 mod pem;
 
+use asn1show_schema::Schema;
 use input::written_of;
 use options::{Options, options_of};
 use program_io::{Input, arguments, explain, write_output};
+use schema_files::schema_of_files;
 use std::process::ExitCode;
 
 // Converts an input, which messages name if it is one of several, and returns the status.
-fn convert_input(rt: &HostRuntime, options: &Options<'_>, input: Input<'_>, is_named: bool) -> u8 {
+fn convert_input(
+    rt: &HostRuntime,
+    options: &Options<'_>,
+    schema: Option<&Schema>,
+    input: Input<'_>,
+    is_named: bool,
+) -> u8 {
     let name = if is_named { Some(input.name()) } else { None };
     let bytes = match input.read(rt) {
         Ok(bytes) => bytes,
         Err(status) => return status,
     };
-    match written_of(rt, options, name, bytes.as_slice()) {
+    match written_of(rt, options, schema, name, bytes.as_slice()) {
         Ok(output) => match write_output(rt, output.as_slice()) {
             Ok(()) => 0,
             Err(error) => error.report(rt),
@@ -45,17 +53,41 @@ fn convert_input(rt: &HostRuntime, options: &Options<'_>, input: Input<'_>, is_n
     }
 }
 
-// Converts the inputs that the options name, and returns the greatest status.
-fn run(rt: &HostRuntime, options: &Options<'_>) -> u8 {
+// Converts the inputs that the options name, as values of a type if it is given, and returns the greatest status.
+fn convert_inputs(rt: &HostRuntime, options: &Options<'_>, schema: Option<&Schema>) -> u8 {
     let Some(files) = options.files() else {
-        return convert_input(rt, options, Input::Stdin, false);
+        return convert_input(rt, options, schema, Input::Stdin, false);
     };
     let mut status = 0;
     for file in files {
-        let ended = convert_input(rt, options, Input::named(Some(*file)), files.len() > 1);
+        let ended = convert_input(
+            rt,
+            options,
+            schema,
+            Input::named(Some(*file)),
+            files.len() > 1,
+        );
         status = status.max(ended);
     }
     status
+}
+
+// Converts the inputs as values of a type of modules, and returns the greatest status.
+fn run_by_type(rt: &HostRuntime, options: &Options<'_>, type_name: &str) -> Result<u8, u8> {
+    let schema = schema_of_files(rt, options.modules().unwrap_or(&[]), type_name)?;
+    let schema = schema.without_selections();
+    Ok(convert_inputs(rt, options, Some(&schema)))
+}
+
+// Converts the inputs that the options name, and returns the greatest status.
+fn run(rt: &HostRuntime, options: &Options<'_>) -> u8 {
+    let Some(type_name) = options.type_name() else {
+        return convert_inputs(rt, options, None);
+    };
+    match run_by_type(rt, options, type_name) {
+        Ok(status) => status,
+        Err(status) => status,
+    }
 }
 
 fn main(rt: HostRuntime) -> ExitCode {

@@ -22,11 +22,21 @@ impl<'a> Options<'a> {
     pub fn files(&self) -> Option<&[&'a str]> {
         self.matches.get_strs("FILE")
     }
+
+    /// The files of the modules of whose type the elements are, if there are any.
+    pub fn modules(&self) -> Option<&[&'a str]> {
+        self.matches.get_strs("module")
+    }
+
+    /// The type of the elements, if a module is given.
+    pub fn type_name(&self) -> Option<&'a str> {
+        self.matches.get_str("type")
+    }
 }
 
 const ABOUT: &str = "Reads elements in BER, and writes them in DER to standard output.
 A file is bytes, hexadecimal digits or blocks of PEM.
-No schema is known: values that equal a DEFAULT stay, though DER leaves them out.";
+Without a module, values that equal a DEFAULT stay, though DER leaves them out.";
 
 const STRICT_HELP: &str = "Reject elements whose DER encoding depends on a schema";
 
@@ -45,6 +55,25 @@ fn pem_arg<'a>(alloc: Global) -> Arg<'a> {
         .help("Write a block of PEM with this label in place of the bytes")
 }
 
+// The module and the type, of which neither is given alone.
+fn module_arg<'a>(alloc: Global) -> Result<Arg<'a>, AllocError> {
+    Arg::new(alloc, "module")
+        .long("module")
+        .value_name("FILE")
+        .action(ArgAction::Append)
+        .help("Take the elements for values of a type of this module")
+        .requires_arg("type")
+}
+
+fn type_arg<'a>(alloc: Global) -> Result<Arg<'a>, AllocError> {
+    Arg::new(alloc, "type")
+        .long("type")
+        .value_name("NAME")
+        .action(ArgAction::Set)
+        .help("The name of the type in the module")
+        .requires_arg("module")
+}
+
 fn files_arg<'a>(alloc: Global) -> Arg<'a> {
     Arg::new(alloc, "FILE")
         .action(ArgAction::Append)
@@ -58,6 +87,8 @@ fn all_args<'a>(alloc: Global) -> Result<Vec<Arg<'a>>, AllocError> {
     args.push(flag(alloc, "hex", "Each file is hexadecimal text").conflicts_with("bytes")?)?;
     args.push(flag(alloc, "bytes", "Each file is the bytes themselves"))?;
     args.push(pem_arg(alloc))?;
+    args.push(module_arg(alloc)?)?;
+    args.push(type_arg(alloc)?)?;
     args.push(files_arg(alloc))?;
     Ok(args)
 }

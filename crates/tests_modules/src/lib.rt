@@ -2,6 +2,7 @@
 //!
 //! | Module | Holds |
 //! |---|---|
+//! | `conversions` | what values of a module's type are in DER |
 //! | `described` | resolved types, described in one line each |
 //! | `fields` | which part of a type each element is |
 //! | `listing` | what is listed and rejected of elements by their module |
@@ -11,6 +12,8 @@
 //! | `types` | what `asn1_types` resolves modules to |
 #![tactic(auto)]
 
+#[cfg(test)]
+mod conversions;
 #[cfg(test)]
 mod described;
 #[cfg(test)]

@@ -1,0 +1,11 @@
+use Rattle.std.proofs.Common.{◌*◌, ◌+◌}
+use Rattle.asn1der_typed.proofs.conversion.+typed.Given as goal
+
+abbrev pub decreases-convert_contents : goal.decreases-convert_contents
+decreases-convert_contents l = 3 * l.levels + 2
+
+abbrev pub decreases-convert_element : goal.decreases-convert_element
+decreases-convert_element l = 3 * l.levels + 1
+
+abbrev pub decreases-convert_constructed : goal.decreases-convert_constructed
+decreases-convert_constructed l = 3 * l.levels
