@@ -21,6 +21,8 @@ NULLS = b"\x05\x00" * 200_000
 # A run of asn1compile that reads its module from standard input.
 LISTING = ["--list", "--use", "x509", "-"]
 
+# The words of asn1check and asn1der for a type of a module.
+KEY_TYPE = ["--module", "modules/PKCS-1.asn1", "--type", "RSAPublicKey"]
 WRONG = b"3006 020105 010101"
 # What a program says of an input: the case's name, the words, the input, the status and what is on standard error.
 REPORTS = {
@@ -35,9 +37,17 @@ REPORTS = {
             b"block 2: offset 0: Invalid: expected no contents",
         ),
         ("digits that are odd", ["--hex"], b"050", 1, None),
+        ("a value of a module", [*KEY_TYPE, "-"], b"3080 020105 020103 0000", 0, b""),
+        (
+            "a value that isn't of the type of a module",
+            [*KEY_TYPE, "-"],
+            WRONG,
+            1,
+            b"offset 5, publicExponent: not in the module",
+        ),
     ],
     "asn1check": [
-        ("the place of an error", ["rsa-public-key"], WRONG, 1, b"stdin: message 1: offset 5, at element 0.1: Invalid"),
+        ("the place of an error", ["rsa-public-key"], WRONG, 1, b"stdin: message 1: offset 5, at publicExponent: Invalid: not in the module: BOOLEAN"),
         (
             "contents that are cut off",
             ["rsa-public-key"],
@@ -50,7 +60,7 @@ REPORTS = {
             ["rsa-public-key"],
             b"3006 020105 020103" + WRONG,
             1,
-            b"stdin: message 2: offset 13, at element 0.1: Invalid\nstdin: 1 of 2 messages rejected",
+            b"stdin: message 2: offset 13, at publicExponent: Invalid: not in the module: BOOLEAN\nstdin: 1 of 2 messages rejected",
         ),
         (
             "a label of another type",
@@ -59,6 +69,15 @@ REPORTS = {
             1,
             b'stdin: message 1: its label is "PUBLIC KEY"',
         ),
+        ("a value of a module", [*KEY_TYPE, "-"], b"3006 020105 020103", 0, b""),
+        (
+            "a value that isn't of the type of a module",
+            [*KEY_TYPE, "-"],
+            WRONG,
+            1,
+            b"stdin: message 1: offset 5, publicExponent: not in the module: BOOLEAN",
+        ),
+        ("a module without a type", ["--module", "modules/PKCS-1.asn1"], b"", 2, None),
         ("no block", ["any"], b"3000", 1, b"stdin: message 1: offset 4: Eof: expected a line that begins a block of PEM"),
         ("a kind that is none", ["x509", "-"], b"", 2, None),
     ]

@@ -74,6 +74,8 @@ fn place(name: Name, may_be_absent: bool, row: usize) -> Place {
     Place {
         name,
         may_be_absent,
+        default: Name { start: 0, end: 0 },
+        default_number: None,
         first: row,
         end: row.saturating_add(1),
     }
@@ -85,8 +87,8 @@ fn schema(alloc: Global) -> Result<Schema, AllocError> {
     text.extend_from_slice(b"abc")?;
     let none = Name { start: 0, end: 0 };
     let mut beginnings = Vec::new(alloc);
-    beginnings.push(beginning(TAG_INTEGER, none, Contents::Value))?;
-    beginnings.push(beginning(TAG_NULL, letter(2), Contents::Value))?;
+    beginnings.push(beginning(TAG_INTEGER, none, Contents::Any))?;
+    beginnings.push(beginning(TAG_NULL, letter(2), Contents::Any))?;
     let parts = Parts {
         first: 0,
         end: 2,
@@ -101,6 +103,8 @@ fn schema(alloc: Global) -> Result<Schema, AllocError> {
         text,
         places,
         beginnings,
+        named_numbers: Vec::new(alloc),
+        selections: Vec::new(alloc),
         start: 2,
     })
 }
