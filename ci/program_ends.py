@@ -23,7 +23,7 @@ LISTING = ["--list", "--use", "x509", "-"]
 
 # The words of asn1check and asn1der for a type of a module.
 KEY_TYPE = ["--module", "modules/PKCS-1.asn1", "--type", "RSAPublicKey"]
-WRONG = b"3006 020105 010101"
+WRONG = b"3006 020105 0101FF"
 # What a program says of an input: the case's name, the words, the input, the status and what is on standard error.
 REPORTS = {
     "asn1der": [
