@@ -1,4 +1,5 @@
 //! Elements in which no others are, or others of which the module says nothing.
+ghost use Rattle.std.specs.Prelude.{◌≡◌, false, is_some, true, IfOk, IfSome, None};
 
 use crate::error::TypedError;
 use asn1der_convert::conversion::convert;
@@ -35,12 +36,9 @@ pub struct Part {
 }
 
 /// The element in DER with this tag and these contents.
-pub fn make_part(
-    alloc: Global,
-    tag: Tag,
-    bit: PCBit,
-    contents: Vec<u8>,
-) -> Result<Part, TypedError> {
+pub fn make_part(alloc: Global, tag: Tag, bit: PCBit, contents: Vec<u8>) -> Result<Part, TypedError>
+    ensures { IfOk result (λ p. p.tag ≡ tag) }
+{
     let value = TaggedDerValue::from_tag_pc_and_bytes(tag, bit, contents);
     match encode_der(alloc, &value) {
         Ok(bytes) => Ok(Part { tag, bytes }),
@@ -68,7 +66,9 @@ fn located_at(error: ConvertError, start: usize, second: usize) -> TypedError {
 }
 
 /// An element of which the module says nothing, converted by its tags alone.
-pub fn untyped_part(alloc: Global, place: Place<'_>) -> Result<Part, TypedError> {
+pub fn untyped_part(alloc: Global, place: Place<'_>) -> Result<Part, TypedError>
+    ensures { IfOk result (λ p. p.tag ≡ place.entry.element.tag) }
+{
     let (offset, element) = (place.offset, place.element);
     match convert(alloc, element.bytes) {
         Ok(converted) => Ok(Part {
@@ -152,7 +152,9 @@ fn least_contents(alloc: Global, value: ValueType, contents: &[u8]) -> Result<Ve
 }
 
 // Whether contents are those of the value that a part has if it is absent.
-fn is_omitted(value: ValueType, default: Option<Number>, contents: &[u8]) -> bool {
+fn is_omitted(value: ValueType, default: Option<Number>, contents: &[u8]) -> bool
+    ensures { default ≡ None → result ≡ false }
+{
     match default {
         Some(number) => has_number(value, contents, number),
         None => false,
@@ -165,7 +167,10 @@ pub fn value_part(
     place: Place<'_>,
     value: ValueType,
     default: Option<Number>,
-) -> Result<Option<Part>, TypedError> {
+) -> Result<Option<Part>, TypedError>
+    ensures tag { IfOk result (λ written. IfSome written (λ p. p.tag ≡ place.entry.element.tag)) }
+    ensures omitted { default ≡ None → IfOk result (λ written. is_some written ≡ true) }
+{
     let converted = universal_element(alloc, place, value)?;
     let Ok((element, _)) = raw_element(Cursor::start(converted.as_slice(), BERMode::Der)) else {
         return Ok(Some(untyped_part(alloc, place)?));
