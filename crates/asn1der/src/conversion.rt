@@ -81,7 +81,9 @@ fn written(
 }
 
 // Reports why there are no values of a type, and returns the status.
-fn reject_typed(rt: &HostRuntime, origin: Origin<'_>, error: &TypedError) -> u8 {
+fn reject_typed(rt: &HostRuntime, origin: Origin<'_>, error: &TypedError) -> u8
+    ensures { (result ≡ 1) ⊎ (result ≡ 3) }
+{
     if error.is_memory() {
         return ProgramError::Memory.report(rt);
     }
@@ -96,7 +98,9 @@ fn written_by_type(
     schema: &Schema,
     origin: Origin<'_>,
     bytes: &[u8],
-) -> Result<Vec<u8>, u8> {
+) -> Result<Vec<u8>, u8>
+    ensures { IfErr result (λ status. (status ≡ 1) ⊎ (status ≡ 3)) }
+{
     match convert_by_type(rt.alloc(), schema, bytes) {
         Ok(converted) => labelled(rt, options, converted),
         Err(error) => Err(reject_typed(rt, origin, &error)),
@@ -111,7 +115,8 @@ pub fn written_as(
     origin: Origin<'_>,
     bytes: &[u8],
 ) -> Result<Vec<u8>, u8>
-    ensures { schema.entry ≡ None → IfOk result (λ output. IsOutput options.now.label bytes.now output.items) }
+    ensures output { schema.entry ≡ None → IfOk result (λ output. IsOutput options.now.label bytes.now output.items) }
+    ensures status { IfErr result (λ status. (status ≡ 1) ⊎ (status ≡ 3)) }
 {
     match schema {
         Some(schema) => written_by_type(rt, options, schema, origin, bytes),
