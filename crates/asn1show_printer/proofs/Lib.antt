@@ -1,4 +1,5 @@
-pub mod Prefix
+pub mod Pieces
+pub mod Headers
 pub mod Outputs
 pub mod Types
 pub mod Contents

@@ -4,3 +4,5 @@ pub mod Conformance
 pub mod Shown
 pub mod Selection
 pub mod Dump
+pub mod Headers
+pub mod Pieces

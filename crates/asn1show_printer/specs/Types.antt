@@ -67,3 +67,12 @@ abbrev pub is_utf8 : AsnType → Bool
 is_utf8 (Text characters) = are_utf8 characters
 is_utf8 (Whole characters) = are_utf8 characters
 is_utf8 _ = false
+
+-- whether a type may be cut into segments
+abbrev pub is_segmented : Option Diagnostic → Bool
+is_segmented None = false
+is_segmented (Some Segments) = true
+is_segmented (Some other) = false
+
+abbrev pub is_string : AsnType → Bool
+is_string t = is_segmented (diagnostic_if_constructed t)

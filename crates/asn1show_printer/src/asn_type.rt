@@ -1,6 +1,6 @@
 //! The types of X.680: their characters, and whether they have parts.
 ghost use Rattle.std.specs.Prelude.{◌≡◌, ◌≤◌, get_or};
-ghost use Rattle.asn1show_printer.specs.Types.{diagnostic_if_constructed, is_utf8, type_with, universal_types};
+ghost use Rattle.asn1show_printer.specs.Types.{diagnostic_if_constructed, is_string, is_utf8, type_with, universal_types};
 ghost use Rattle.asn1show_printer.specs.declared.asn_type.AsnType.TheVariants.{Unknown};
 
 use crate::diagnostic::Diagnostic;
@@ -140,7 +140,9 @@ impl AsnType {
     }
 
     /// Whether the type may be cut into segments.
-    pub fn is_string(self) -> bool {
+    pub fn is_string(self) -> bool
+        ensures { result ≡ is_string self }
+    {
         matches!(
             self,
             AsnType::Bits

@@ -8,6 +8,7 @@
 //! | `value` | the values of primitive elements |
 //! | `elements` | the elements in contents |
 //! | `module_parts` | what a module says of an element besides its names |
+//! | `lengths` | the octets that headers take |
 //! | `sets` | the order of a SET, and how CER cuts strings |
 //! | `diagnostic` | diagnostics of elements, and the conformance of the whole |
 //! | `selection` | what is shown of elements |
@@ -29,6 +30,7 @@ mod dump;
 mod elements;
 mod extraction;
 mod head;
+mod lengths;
 mod line;
 mod module_parts;
 mod output;

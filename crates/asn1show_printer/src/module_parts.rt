@@ -1,5 +1,7 @@
 //! What a module says of an element besides its names: parts that are absent, and names of numbers and bits.
 ghost use Rattle.std.specs.Prelude.{◌≡◌};
+ghost use Rattle.asn1show_schema.specs.declared.schema.Contents.TheVariants.{Any};
+ghost use Rattle.asn1show_printer.specs.Types.{type_with};
 
 use crate::asn_type::{AsnType, type_of, universal_type};
 use crate::diagnostic::Diagnostic;
@@ -15,7 +17,9 @@ use std::alloc::{AllocError, Global};
 use yasna_base::tag::PCBit;
 
 /// The type of an element, which is the module's if the label says it.
-pub fn labelled_type(item: &Item<'_>, label: Label<'_>) -> AsnType {
+pub fn labelled_type(item: &Item<'_>, label: Label<'_>) -> AsnType
+    ensures { label.entry.contents ≡ Any → result ≡ type_with item.now.tag }
+{
     match label.contents {
         Contents::Any | Contents::Selected(_) => type_of(item.tag),
         Contents::Value(value) => universal_type(value.universal_number()),

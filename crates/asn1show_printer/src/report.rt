@@ -6,13 +6,14 @@ ghost use Rattle.asn1show_walk.specs.Errors.{IsExternal};
 
 use crate::asn_type::AsnType;
 use crate::diagnostic::{Conformance, Diagnostic, unless};
+use crate::lengths::is_long;
 use crate::line::LineBuffer;
 use crate::module_parts::{
     diagnostic_in, has_list_size, is_default, labelled_type, write_names, write_parts,
 };
 use crate::output::Output;
 use crate::selection::Position;
-use crate::sets::{are_cer_segments, order_of, stays_whole};
+use crate::sets::{cer_diagnostic, order_of};
 use crate::value::{Style, is_shown_as_text, write_quoted, write_value};
 use asn1show_schema::schema::Contents;
 use asn1show_schema::{Fields, Label, Schema};
@@ -87,7 +88,7 @@ impl<'n> Report<'n> {
         self.diagnostics.clear();
         self.print_contents(item, kind, label);
         self.diagnose_header(item);
-        self.diagnose(item, cer_diagnostic(item, kind));
+        self.diagnose(item, cer_diagnostic(item, kind.is_string()));
         self.diagnose(item, unless(!label.is_unknown, Diagnostic::NotInModule));
         self.diagnose_by_module(item, label);
         if self.around.push(segments_of(item.bit, kind)).is_err() {
@@ -300,22 +301,6 @@ fn fields_of<'n>(style: Style<'n>) -> Option<Fields<'n>> {
     }
 }
 
-// Why CER doesn't accept an element of this type as it is encoded: constructed ones have indefinite length, and long strings are cut
-// (X.690, 9.1 and 9.2).
-fn cer_diagnostic(item: &Item<'_>, kind: AsnType) -> Option<Diagnostic> {
-    match item.bit {
-        PCBit::Primitive => unless(
-            !kind.is_string() || stays_whole(item.contents),
-            Diagnostic::Uncut,
-        ),
-        PCBit::Constructed if item.size.is_some() => Some(Diagnostic::Definite),
-        PCBit::Constructed => unless(
-            !kind.is_string() || are_cer_segments(item.contents),
-            Diagnostic::Uncut,
-        ),
-    }
-}
-
 // The tag of the segments of a constructed string of this type (X.690, 8.6, 8.7 and 8.23).
 fn segments_of(bit: PCBit, kind: AsnType) -> Option<Tag> {
     match (bit, kind) {
@@ -331,30 +316,4 @@ fn has_unused_bits(item: &Item<'_>) -> bool {
     item.tag == TAG_BITSTRING
         && item.bit == PCBit::Primitive
         && item.contents.first().is_some_and(|unused| *unused != 0)
-}
-
-// The count of octets of the shortest length of this size.
-fn shortest_length(size: usize) -> usize {
-    if size < 128 {
-        return 1;
-    }
-    let bits = usize::BITS - size.leading_zeros();
-    1 + bits.div_ceil(8) as usize
-}
-
-// The count of octets of an identifier with this number.
-fn identifier_length(number: u64) -> usize {
-    if number < 31 {
-        return 1;
-    }
-    let bits = u64::BITS - number.leading_zeros();
-    1 + bits.div_ceil(7) as usize
-}
-
-// Whether an element's length takes more octets than it needs.
-fn is_long(item: &Item<'_>) -> bool {
-    let Some(size) = item.size else {
-        return false;
-    };
-    item.header > identifier_length(item.tag.tag_number).saturating_add(shortest_length(size))
 }
