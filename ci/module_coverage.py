@@ -26,6 +26,7 @@ class Counts:
     parsed: int = 0
     exact: int = 0
     more: int = 0
+    closed: int = 0
     reasons: Counter = field(default_factory=Counter)
 
     def rejected(self):
@@ -60,6 +61,7 @@ def count_folder(program, counts, files):
         return
     counts.exact += len(re.findall(r": exact\b", said[0]))
     counts.more += said[0].count(": accepts more")
+    counts.closed += said[0].count(": rejects additions")
     counts.reasons.update(it["why"] for it in PLACE.finditer(said[1]) if it["why"] != OTHER and parsed)
 
 
@@ -80,9 +82,9 @@ def main(program, folder):
     packages = sorted(it for it in Path(folder).iterdir() if it.is_dir())
     with ThreadPoolExecutor(2) as pool:
         found = list(pool.map(lambda it: count_package(program, it), packages))
-    print("\n| Package | Files | Parsed | Types exact | Types that accept more | Rejected |\n|---|---|---|---|---|---|")
+    print("\n| Package | Files | Parsed | Types exact | Types that accept more | Others that reject additions | Rejected |\n|---|---|---|---|---|---|---|")
     for package, counts in zip(packages, found):
-        print(f"| `{package.name}` | {counts.files} | {counts.parsed} | {counts.exact} | {counts.more} | {counts.rejected()} |")
+        print(f"| `{package.name}` | {counts.files} | {counts.parsed} | {counts.exact} | {counts.more} | {counts.closed} | {counts.rejected()} |")
     reasons = sum((it.reasons for it in found), Counter())
     print("\n| Why | Times |\n|---|---|")
     for why, times in reasons.most_common():

@@ -45,6 +45,13 @@ Code ::= SEQUENCE {
     first Missing }
 END
 """
+WIDE = """Wide DEFINITIONS ::= BEGIN
+Badge ::= SET { number INTEGER, flag BOOLEAN }
+Shape ::= CHOICE { size INTEGER, ... }
+Box ::= SEQUENCE { shape Shape OPTIONAL, label UTF8String }
+Head ::= SEQUENCE { id NULL, ..., ..., name UTF8String }
+END
+"""
 # What is listed of their types.
 FLAGS = "Flags: exact, canonical\n"
 ALONE = "Alone: exact, canonical\n"
@@ -52,10 +59,17 @@ REPORT = "Report: exact, canonical\n"
 BOX = "Box: exact, canonical\n"
 KNOWN = "Known: exact, canonical\n"
 CODE = "Code: accepts more, canonical\n"
+BADGE = "Badge: accepts more: the components of a SET aren't read\n"
+CLOSED = "Shape: rejects additions, canonical\nBox: exact, canonical\n"
+HEAD = "Head: rejects additions, canonical\n"
 # What is said of what is wrong in them.
 IS_LOOSE = """loose.asn1:4:26: the contents of a string aren't read
         octets OCTET STRING (CONTAINING Known) }
                              ^
+"""
+IS_SET = """wide.asn1:2:1: the components of a SET aren't read
+    Badge ::= SET { number INTEGER, flag BOOLEAN }
+    ^
 """
 IS_MALFORMED = """malformed.asn1:2:27: expected a type
     Code ::= SEQUENCE { first }
@@ -80,7 +94,15 @@ IS_MORE = """copies/pkcs10/src/attributes.rt:75:1: the modules give nothing more
     fn more() {}
     ^
 """
-MODULES = {"first": FIRST, "second": SECOND, "third": THIRD, "loose": LOOSE, "malformed": MALFORMED, "unknown": UNKNOWN}
+MODULES = {
+    "first": FIRST,
+    "second": SECOND,
+    "third": THIRD,
+    "loose": LOOSE,
+    "malformed": MALFORMED,
+    "unknown": UNKNOWN,
+    "wide": WIDE,
+}
 
 
 def run(folder, *words, given=""):
@@ -101,6 +123,9 @@ def ends(folder):
     yield "a type that accepts more", run(folder, "--list", "loose.asn1"), (0, f"{KNOWN}{CODE}", "")
     yield "it with --strict", run(folder, "--list", "--strict", "loose.asn1"), (1, f"{KNOWN}{CODE}", IS_LOOSE)
     yield "another type", run(folder, "--list", "--strict", "--type", "Known", "loose.asn1"), (0, KNOWN, "")
+    yield "a SET, and additions that are rejected", run(folder, "--list", "wide.asn1"), (0, f"{BADGE}{CLOSED}{HEAD}", "")
+    yield "a SET with --strict", run(folder, "--list", "--strict", "wide.asn1"), (1, f"{BADGE}{CLOSED}{HEAD}", IS_SET)
+    yield "additions with --strict", run(folder, "--list", "--strict", "--type", "Box", "--type", "Head", "wide.asn1"), (0, f"{CLOSED}{HEAD}", "")
     yield "what isn't ASN.1", run(folder, "--list", "malformed.asn1"), (1, "", IS_MALFORMED)
     yield "a name that isn't defined", run(folder, "--list", "unknown.asn1"), (1, KNOWN, IS_UNKNOWN)
     yield "a type that isn't there", run(folder, "--list", "--type", "Missing", "first.asn1", "second.asn1"), (1, "", IS_MISSING)

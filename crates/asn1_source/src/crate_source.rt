@@ -2,6 +2,7 @@
 
 use crate::canonical::is_body_canonical;
 use crate::constants::add_constants;
+use crate::differences::{SET_TEXT, accepts_more, is_set, rejects_additions};
 use crate::exports::exports_of;
 use crate::head::put_path;
 use crate::imports::Words;
@@ -264,7 +265,33 @@ pub fn sources_of(
     Ok(files)
 }
 
-/// A line for each type: its name, whether it accepts exactly what the module says, and whether what BER reads is written in DER.
+// What is said of a type in the list, after its path.
+fn put_judgement(definition: &Definition<'_>, name: &TypeName, out: &mut Text) {
+    let body = &definition.body;
+    out.say(
+        match (
+            accepts_more(definition),
+            rejects_additions(body, name.is_open),
+        ) {
+            (false, false) => ": exact",
+            (false, true) => ": rejects additions",
+            (true, false) => ": accepts more",
+            (true, true) => ": accepts more, rejects additions",
+        },
+    );
+    if is_set(body) {
+        out.say(": ");
+        out.say(SET_TEXT);
+    }
+    out.say(if name.is_canonical {
+        ", canonical\n"
+    } else {
+        "\n"
+    });
+}
+
+/// A line for each type: its name, whether it accepts exactly what the module says, more, or not what a later version adds, and whether what BER
+/// reads is written in DER.
 pub fn list_of(alloc: Global, source: &CrateSource<'_, '_>) -> Text {
     let mut out = Text::new(alloc);
     for (place, name) in source.names.defined.iter().enumerate() {
@@ -275,16 +302,7 @@ pub fn list_of(alloc: Global, source: &CrateSource<'_, '_>) -> Text {
             continue;
         }
         put_path(definition.path.as_slice(), &mut out);
-        out.say(if definition.looser.is_empty() {
-            ": exact"
-        } else {
-            ": accepts more"
-        });
-        out.say(if name.is_canonical {
-            ", canonical\n"
-        } else {
-            "\n"
-        });
+        put_judgement(definition, name, &mut out);
     }
     out
 }

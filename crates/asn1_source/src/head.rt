@@ -1,10 +1,10 @@
 //! The head of a source: the notation of the type, as the module has it.
 
-use crate::extension::tail_of;
+use crate::differences::{Difference, inner_differences, rejects_additions, rejects_elements};
 use crate::text::Text;
 use asn1_syntax::tree::{Assignment, Module};
 use asn1_syntax::{Token, lex};
-use asn1_types::model::{Body, Components, Definition, Loosening, Looser, Presence};
+use asn1_types::model::{Body, Components, Definition, Presence};
 use std::alloc::Global;
 
 /// A module: its source, and its tree.
@@ -77,30 +77,15 @@ fn put_lines(text: &[u8], out: &mut Text) {
     out.say("\n");
 }
 
-/// Why a type accepts more than its module says.
-pub fn looser_text(what: Loosening) -> &'static str {
-    match what {
-        Loosening::Constraint => "a constraint isn't tested",
-        Loosening::InnerConstraint => "a constraint of components isn't tested",
-        Loosening::Contents => "the contents of a string aren't read",
-        Loosening::OpenType => "an open type is any element",
-        Loosening::Parameter => "a parameter isn't applied",
-        Loosening::Default => "a part with a default may be encoded though it is the default",
-        Loosening::Recursion => "a type inside itself is read as it came",
-        Loosening::Characters => "the characters of a string aren't read",
-        Loosening::Contained => "the contents of a value aren't read",
-    }
-}
-
 // Appends what a type leaves out of its module.
-fn put_looser(looser: &[Looser], out: &mut Text) {
-    if looser.is_empty() {
+fn put_differences(differences: &[Difference], out: &mut Text) {
+    if differences.is_empty() {
         return;
     }
     out.say("//!\n//! It accepts more than the module says:\n//!\n");
-    for one in looser {
+    for one in differences {
         out.say("//! - ");
-        out.say(looser_text(one.what));
+        out.say(one.text);
         out.say(".\n");
     }
 }
@@ -117,8 +102,7 @@ fn has_addition(components: &Components<'_>) -> bool {
 
 // What a SEQUENCE leaves out, and what it adds.
 fn sequence_text(components: &Components<'_>) -> &'static str {
-    let is_closed = components.extension.is_some() && tail_of(components).is_none();
-    match (is_closed, has_addition(components)) {
+    match (rejects_elements(components), has_addition(components)) {
         (true, true) =>
             "//!\n//! An element that a later version may add is rejected. A part after `...` may be absent, as in an earlier version.\n",
         (true, false) => "//!\n//! An element that a later version may add is rejected.\n",
@@ -133,7 +117,7 @@ fn missing_text(body: &Body<'_>, is_open: bool) -> &'static str {
         Body::Set(_) =>
             "//!\n//! The components of this SET aren't read: its elements are as they came.\n",
         Body::Sequence(components) => sequence_text(components),
-        Body::Choice(choice) if choice.is_extensible && !is_open => {
+        Body::Choice(_) if rejects_additions(body, is_open) => {
             "//!\n//! An alternative that a later version may add is rejected.\n"
         }
         _ => "",
@@ -174,5 +158,8 @@ pub fn put_head(
     put_lines(assignment_text(alloc, *module, definition.assignment), out);
     out.say("//! ```\n");
     out.say(missing_text(&definition.body, is_open));
-    put_looser(definition.looser.as_slice(), out);
+    match inner_differences(alloc, definition) {
+        Ok(differences) => put_differences(differences.as_slice(), out),
+        Err(_) => out.cut(),
+    }
 }

@@ -8,6 +8,7 @@ mod choice_source;
 mod constants;
 mod crate_source;
 mod defaults;
+mod differences;
 mod enumeration_source;
 mod exports;
 mod extension;
@@ -38,8 +39,9 @@ mod value_source;
 mod words;
 
 pub use crate_source::{crate_line, list_of, names_of, sources_of};
+pub use differences::{Difference, differences_of};
 pub use exports::{Export, ExportsError, add_exports};
-pub use head::{ModuleSource, looser_text};
+pub use head::ModuleSource;
 pub use known::{known_names, known_types};
 pub use reach::reached;
 pub use terms::{TypeName, TypeNames};

@@ -21,10 +21,10 @@ mod output;
 mod type_reports;
 
 use asn1_source::{
-    CrateSource, Export, ModuleSource, SourceFile, crate_line, known_names, known_types, list_of,
-    mutants_of, names_of, reached, source_of, sources_of, tests_of,
+    CrateSource, Export, ModuleSource, SourceFile, crate_line, differences_of, known_names,
+    known_types, list_of, mutants_of, names_of, reached, source_of, sources_of, tests_of,
 };
-use asn1_types::model::{KnownType, Resolved};
+use asn1_types::model::{Definition, KnownType, Resolved};
 use asn1_types::resolve;
 use exports::{ExportsFile, parse_exports, read_exports};
 use module_files::{ModuleFile, Modules, parse_files, read_files, report_problems};
@@ -33,7 +33,7 @@ use output::{check_files, write_files};
 use program_io::{ProgramError, arguments, explain, report, write_output};
 use std::alloc::{AllocError, Global};
 use std::process::ExitCode;
-use type_reports::{report_looser, report_unknown};
+use type_reports::{report_differences, report_unknown};
 
 // The exit status after an I/O error, or if memory ran out.
 const IO_ERROR: u8 = 3;
@@ -120,6 +120,19 @@ fn emit(rt: &HostRuntime, options: &Options<'_>, source: &CrateSource<'_, '_>) -
     }
 }
 
+// Prints where a type accepts more than its module, and returns the status.
+fn judge_one(
+    rt: &HostRuntime,
+    files: &[ModuleFile<'_>],
+    modules: &Modules<'_>,
+    definition: &Definition<'_>,
+) -> u8 {
+    match differences_of(rt.alloc(), definition) {
+        Ok(differences) => report_differences(rt, files, modules, differences.as_slice()),
+        Err(_) => ProgramError::Memory.report(rt),
+    }
+}
+
 // Prints where wanted types accept more than the modules, and returns the status.
 fn judge(
     rt: &HostRuntime,
@@ -130,8 +143,7 @@ fn judge(
     let mut status = 0;
     for (definition, is_wanted) in source.definitions.iter().zip(source.wanted.iter()) {
         if *is_wanted {
-            let one = report_looser(rt, files, modules, definition.looser.as_slice());
-            status = one.max(status);
+            status = judge_one(rt, files, modules, definition).max(status);
         }
     }
     status

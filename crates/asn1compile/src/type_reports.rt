@@ -1,7 +1,8 @@
 //! What is printed of types: where they accept more than their modules, and which of them aren't there.
 ghost use Rattle.std.specs.Prelude.{◌≡◌, ◌↔◌, []};
 
-use asn1_types::model::{Definition, Looser};
+use asn1_source::Difference;
+use asn1_types::model::Definition;
 use module_files::{ModuleFile, Modules, report_place};
 use program_io::report;
 
@@ -9,25 +10,25 @@ use program_io::report;
 const REJECTED: u8 = 1;
 
 /// Prints where types accept more than their modules, and returns the status.
-pub fn report_looser(
+pub fn report_differences(
     rt: &HostRuntime,
     files: &[ModuleFile<'_>],
     modules: &Modules<'_>,
-    looser: &[Looser],
+    differences: &[Difference],
 ) -> u8
-    ensures { (result ≡ 0) ↔ (looser.now ≡ []) }
+    ensures { (result ≡ 0) ↔ (differences.now ≡ []) }
 {
-    for one in looser {
+    for one in differences {
         report_place(
             rt,
             files,
             modules,
             one.place.module,
             one.place.offset,
-            asn1_source::looser_text(one.what),
+            one.text,
         );
     }
-    if looser.is_empty() { 0 } else { REJECTED }
+    if differences.is_empty() { 0 } else { REJECTED }
 }
 
 // Whether a type of this name is defined.

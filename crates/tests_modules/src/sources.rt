@@ -107,6 +107,38 @@ static VALUES: [Row; 5] = [
     ),
 ];
 
+const HEADS: &[u8] =
+    b"M DEFINITIONS ::= BEGIN Head ::= SEQUENCE { id NULL, ..., ..., name UTF8String } Tail ::= SEQUENCE { id NULL, ... } END";
+
+// The lines of types that accept more than the module says, and of those that reject what a later version adds.
+static LISTED: [Row; 5] = [
+    (
+        b"M DEFINITIONS ::= BEGIN Badge ::= [1] SET { number INTEGER, ... } END",
+        "list",
+        "Badge: accepts more: the components of a SET aren't read\n",
+    ),
+    (
+        b"M DEFINITIONS ::= BEGIN Shape ::= CHOICE { number INTEGER, ... } Box ::= SEQUENCE { shape Shape OPTIONAL, label UTF8String } END",
+        "list",
+        "Shape: rejects additions, canonical\nBox: exact, canonical\n",
+    ),
+    (
+        b"M DEFINITIONS ::= BEGIN Shape ::= CHOICE { number INTEGER, ... } Box ::= SEQUENCE { shape Shape } END",
+        "list",
+        "Shape: exact\nBox: exact\n",
+    ),
+    (
+        HEADS,
+        "list",
+        "Head: rejects additions, canonical\nTail: exact\n",
+    ),
+    (
+        b"M DEFINITIONS ::= BEGIN Name ::= SEQUENCE { text BMPString (SIZE (1..8)), ..., ..., id NULL } END",
+        "list",
+        "Name: accepts more, rejects additions, canonical\n",
+    ),
+];
+
 const LEVEL: &[u8] =
     b"M DEFINITIONS ::= BEGIN Level ::= [APPLICATION 40] SEQUENCE { number INTEGER (5..9), name [1] IMPLICIT UTF8String OPTIONAL } END";
 
@@ -240,6 +272,11 @@ fn sequences_are_written(rt: HostRuntime) {
 #[test]
 fn enumerations_are_written(rt: HostRuntime) {
     assert!(rt; first_missing(rt.alloc(), &VALUES, &[]).is_none());
+}
+
+#[test]
+fn types_are_listed(rt: HostRuntime) {
+    assert!(rt; first_missing(rt.alloc(), &LISTED, &[]).is_none());
 }
 
 #[test]

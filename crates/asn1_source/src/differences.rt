@@ -1,0 +1,96 @@
+//! Where a type differs from its module: why it accepts more, and whether it rejects what a later version adds.
+
+use crate::extension::tail_of;
+use asn1_types::model::{Body, Components, Definition, Loosening, Looser, Place};
+use std::alloc::{AllocError, Global};
+
+/// A place where a type accepts more than its module says.
+#[derive(Clone, Copy)]
+pub struct Difference {
+    /// The place.
+    pub place: Place,
+    /// Why.
+    pub text: &'static str,
+}
+
+/// Why a SET accepts more than its module says.
+pub const SET_TEXT: &str = "the components of a SET aren't read";
+
+// Why a type accepts more than its module says.
+fn looser_text(what: Loosening) -> &'static str {
+    match what {
+        Loosening::Constraint => "a constraint isn't tested",
+        Loosening::InnerConstraint => "a constraint of components isn't tested",
+        Loosening::Contents => "the contents of a string aren't read",
+        Loosening::OpenType => "an open type is any element",
+        Loosening::Parameter => "a parameter isn't applied",
+        Loosening::Default => "a part with a default may be encoded though it is the default",
+        Loosening::Recursion => "a type inside itself is read as it came",
+        Loosening::Characters => "the characters of a string aren't read",
+        Loosening::Contained => "the contents of a value aren't read",
+    }
+}
+
+fn difference_of(looser: Looser) -> Difference {
+    Difference {
+        place: looser.place,
+        text: looser_text(looser.what),
+    }
+}
+
+/// Whether a type is a SET, whose elements are as they came.
+pub fn is_set(body: &Body<'_>) -> bool {
+    match body {
+        Body::Set(_) => true,
+        _ => false,
+    }
+}
+
+/// Where a type accepts more than its module says, but for the components of a SET.
+pub fn inner_differences(
+    alloc: Global,
+    definition: &Definition<'_>,
+) -> Result<Vec<Difference>, AllocError> {
+    let mut all = Vec::new(alloc);
+    for looser in definition.looser.iter() {
+        if all.push(difference_of(*looser)).is_err() {
+            return Err(AllocError);
+        }
+    }
+    Ok(all)
+}
+
+/// Where a type accepts more than its module says.
+pub fn differences_of(
+    alloc: Global,
+    definition: &Definition<'_>,
+) -> Result<Vec<Difference>, AllocError> {
+    let mut all = inner_differences(alloc, definition)?;
+    if is_set(&definition.body) {
+        let place = definition.place;
+        let text = SET_TEXT;
+        if all.push(Difference { place, text }).is_err() {
+            return Err(AllocError);
+        }
+    }
+    Ok(all)
+}
+
+/// Whether a type accepts more than its module says.
+pub fn accepts_more(definition: &Definition<'_>) -> bool {
+    is_set(&definition.body) || !definition.looser.is_empty()
+}
+
+/// Whether a SEQUENCE rejects the elements that a later version may add.
+pub fn rejects_elements(components: &Components<'_>) -> bool {
+    components.extension.is_some() && tail_of(components).is_none()
+}
+
+/// Whether a type rejects what a later version may add. `is_open`: an alternative that this version doesn't know is a value.
+pub fn rejects_additions(body: &Body<'_>, is_open: bool) -> bool {
+    match body {
+        Body::Sequence(components) => rejects_elements(components),
+        Body::Choice(choice) => choice.is_extensible && !is_open,
+        Body::Set(_) | Body::Enumerated(_) | Body::Value(_) | Body::Alias(_) => false,
+    }
+}
