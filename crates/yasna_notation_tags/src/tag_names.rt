@@ -6,12 +6,12 @@ ghost use Rattle.yasna_base.specs.Identifier.{universal, end_tag};
 ghost use Rattle.yasna_base.proofs.Identifier.{not_end};
 ghost use Rattle.yasna_notation_tags.specs.Tags.{private, private_not_end};
 
-use yasna_base::Tag;
 use yasna_base::tags::{
     TAG_BMPSTRING, TAG_EMBEDDED_PDV, TAG_EXT, TAG_GENERALSTRING, TAG_GRAPHICSTRING,
-    TAG_OBJECT_DESCRIPTOR, TAG_REAL, TAG_RELATIVE_OID, TAG_TELETEXSTRING, TAG_UNIVERSALSTRING,
-    TAG_VIDEOTEXSTRING,
+    TAG_OBJECT_DESCRIPTOR, TAG_REAL, TAG_RELATIVE_OID, TAG_SEQUENCE, TAG_SET, TAG_TELETEXSTRING,
+    TAG_UNIVERSALSTRING, TAG_VIDEOTEXSTRING,
 };
+use yasna_base::{Tag, TagClass};
 use yasna_notation::TagName;
 
 /// The tag that a module writes as `[PRIVATE N]`.
@@ -30,7 +30,14 @@ impl<const N: u64> TagName for Private<N> {
     ghost not_end = { private_not_end N };
 }
 
-/// The tag that X.680 writes as `[UNIVERSAL N]`, of a type that has no notation of its own. Those of other numbers are no `TagName`.
+// The tag of a CHARACTER STRING (X.680, 44).
+const TAG_CHARACTER_STRING: Tag = Tag {
+    tag_class: TagClass::Universal,
+    tag_number: 29,
+};
+
+/// The tag that X.680 writes as `[UNIVERSAL N]`, of a type that has no notation of its own, or of a SEQUENCE or a SET whose elements are as they
+/// came. Those of other numbers are no `TagName`.
 pub struct Universal<const N: u64>;
 
 impl TagName for Universal<7> {
@@ -98,6 +105,32 @@ impl TagName for Universal<13> {
     ghost not_end = { not_end 13 (λ e. omega arith) };
 }
 
+impl TagName for Universal<16> {
+    ghost tag = { universal 16 };
+
+    #[inline(always)]
+    fn tag() -> Tag {
+        TAG_SEQUENCE
+    }
+
+    ghost in_range = { omega arith };
+
+    ghost not_end = { not_end 16 (λ e. omega arith) };
+}
+
+impl TagName for Universal<17> {
+    ghost tag = { universal 17 };
+
+    #[inline(always)]
+    fn tag() -> Tag {
+        TAG_SET
+    }
+
+    ghost in_range = { omega arith };
+
+    ghost not_end = { not_end 17 (λ e. omega arith) };
+}
+
 impl TagName for Universal<20> {
     ghost tag = { universal 20 };
 
@@ -161,6 +194,19 @@ impl TagName for Universal<28> {
     ghost in_range = { omega arith };
 
     ghost not_end = { not_end 28 (λ e. omega arith) };
+}
+
+impl TagName for Universal<29> {
+    ghost tag = { universal 29 };
+
+    #[inline(always)]
+    fn tag() -> Tag {
+        TAG_CHARACTER_STRING
+    }
+
+    ghost in_range = { omega arith };
+
+    ghost not_end = { not_end 29 (λ e. omega arith) };
 }
 
 impl TagName for Universal<30> {
