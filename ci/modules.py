@@ -52,6 +52,12 @@ Box ::= SEQUENCE { shape Shape OPTIONAL, label UTF8String }
 Head ::= SEQUENCE { id NULL, ..., ..., name UTF8String }
 END
 """
+DEFAULTS = """Defaults DEFINITIONS IMPLICIT TAGS ::= BEGIN
+id-box OBJECT IDENTIFIER ::= { 2 999 1 }
+Label ::= SEQUENCE { kind OBJECT IDENTIFIER DEFAULT id-box, key [0] OCTET STRING DEFAULT '0102'H, text UTF8String DEFAULT "box" }
+Open ::= SEQUENCE { size INTEGER, text UTF8String DEFAULT "box", ... }
+END
+"""
 # What is listed of their types.
 FLAGS = "Flags: exact, canonical\n"
 ALONE = "Alone: exact, canonical\n"
@@ -62,6 +68,12 @@ CODE = "Code: accepts more, canonical\n"
 BADGE = "Badge: accepts more: the components of a SET aren't read\n"
 CLOSED = "Shape: rejects additions, canonical\nBox: exact, canonical\n"
 HEAD = "Head: rejects additions, canonical\n"
+LABEL = "Label: exact, canonical\n"
+OPEN = "Open: accepts more\n"
+# The parts of a SEQUENCE with such defaults.
+PARTS = """type Parts = OrDefault<ObjectIdentifier, TestedIdentifier<KindDefault>, OrDefault<Implicit<Context<0>, Vec<u8>>, \
+TestedOctets<KeyDefault>, OrDefault<String, TestedText<TextDefault>, ()>>>;
+"""
 # What is said of what is wrong in them.
 IS_LOOSE = """loose.asn1:4:26: the contents of a string aren't read
         octets OCTET STRING (CONTAINING Known) }
@@ -70,6 +82,10 @@ IS_LOOSE = """loose.asn1:4:26: the contents of a string aren't read
 IS_SET = """wide.asn1:2:1: the components of a SET aren't read
     Badge ::= SET { number INTEGER, flag BOOLEAN }
     ^
+"""
+IS_UNTESTED = """defaults.asn1:4:35: a part with a default may be encoded though it is the default
+    Open ::= SEQUENCE { size INTEGER, text UTF8String DEFAULT "box", ... }
+                                      ^
 """
 IS_MALFORMED = """malformed.asn1:2:27: expected a type
     Code ::= SEQUENCE { first }
@@ -102,6 +118,7 @@ MODULES = {
     "malformed": MALFORMED,
     "unknown": UNKNOWN,
     "wide": WIDE,
+    "defaults": DEFAULTS,
 }
 
 
@@ -126,6 +143,7 @@ def ends(folder):
     yield "a SET, and additions that are rejected", run(folder, "--list", "wide.asn1"), (0, f"{BADGE}{CLOSED}{HEAD}", "")
     yield "a SET with --strict", run(folder, "--list", "--strict", "wide.asn1"), (1, f"{BADGE}{CLOSED}{HEAD}", IS_SET)
     yield "additions with --strict", run(folder, "--list", "--strict", "--type", "Box", "--type", "Head", "wide.asn1"), (0, f"{CLOSED}{HEAD}", "")
+    yield "defaults", run(folder, "--list", "--strict", "defaults.asn1"), (1, f"{LABEL}{OPEN}", IS_UNTESTED)
     yield "what isn't ASN.1", run(folder, "--list", "malformed.asn1"), (1, "", IS_MALFORMED)
     yield "a name that isn't defined", run(folder, "--list", "unknown.asn1"), (1, KNOWN, IS_UNKNOWN)
     yield "a type that isn't there", run(folder, "--list", "--type", "Missing", "first.asn1", "second.asn1"), (1, "", IS_MISSING)
@@ -146,6 +164,8 @@ def crates(folder):
     yield "no such crate", run(folder, "--list", "--use", "none", "third.asn1")[0], 3
     (out / "some/exports").write_text("First Report\n")
     yield "a list that is malformed", run(folder, "--list", "--use", "some", "third.asn1"), (1, "", IS_NO_LIST)
+    yield "a crate with defaults", run(folder, "--crate", "labels", "--type", "Label", "--strict", "defaults.asn1")[0], 0
+    yield "its parts", PARTS in (out / "labels/src/label.rt").read_text(), True
     yield "what is rejected with --strict", run(folder, "--crate", "none", "--strict", "loose.asn1")[0], 1
     yield "no file of it", written(out / "none"), []
 

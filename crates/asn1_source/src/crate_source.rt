@@ -2,7 +2,7 @@
 
 use crate::canonical::is_body_canonical;
 use crate::constants::add_constants;
-use crate::differences::{SET_TEXT, accepts_more, is_set, rejects_additions};
+use crate::differences::{Difference, SET_TEXT, differences_of, is_set, rejects_additions};
 use crate::exports::exports_of;
 use crate::head::put_path;
 use crate::imports::Words;
@@ -265,20 +265,21 @@ pub fn sources_of(
     Ok(files)
 }
 
-// What is said of a type in the list, after its path.
-fn put_judgement(definition: &Definition<'_>, name: &TypeName, out: &mut Text) {
+// Appends what the list says of a type, after its path.
+fn put_judgement(
+    definition: &Definition<'_>,
+    differences: &[Difference],
+    name: &TypeName,
+    out: &mut Text,
+) {
     let body = &definition.body;
-    out.say(
-        match (
-            accepts_more(definition),
-            rejects_additions(body, name.is_open),
-        ) {
-            (false, false) => ": exact",
-            (false, true) => ": rejects additions",
-            (true, false) => ": accepts more",
-            (true, true) => ": accepts more, rejects additions",
-        },
-    );
+    let is_closed = rejects_additions(body, name.is_open);
+    out.say(match (differences.is_empty(), is_closed) {
+        (true, false) => ": exact",
+        (true, true) => ": rejects additions",
+        (false, false) => ": accepts more",
+        (false, true) => ": accepts more, rejects additions",
+    });
     if is_set(body) {
         out.say(": ");
         out.say(SET_TEXT);
@@ -302,7 +303,10 @@ pub fn list_of(alloc: Global, source: &CrateSource<'_, '_>) -> Text {
             continue;
         }
         put_path(definition.path.as_slice(), &mut out);
-        put_judgement(definition, name, &mut out);
+        match differences_of(alloc, definition) {
+            Ok(all) => put_judgement(definition, all.as_slice(), name, &mut out),
+            Err(_) => out.cut(),
+        }
     }
     out
 }

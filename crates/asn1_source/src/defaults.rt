@@ -5,11 +5,11 @@
 //! | `#` | the number as Rust writes it |
 //! | `^` | the number in clauses |
 //! | `$` | what the names of the specs of an ENUMERATED begin with |
-//! | `&` | the type of the default of an ENUMERATED |
+//! | `&` | the type of the default of an ENUMERATED, and that of the value of one that is tested |
 
 use crate::forms::BOOLEAN;
 use crate::shapes::{Shape, integer_shape};
-use asn1_types::model::{DefaultValue, Integer, Notation};
+use asn1_types::model::{DefaultValue, Integer, Notation, Part, Presence};
 
 /// How a default is written: its type, and in clauses the test for it, its value, and the terms that the test detects it and that equal values are the
 /// same.
@@ -74,6 +74,51 @@ static ITEM: DefaultTexts = DefaultTexts {
     same: "@L.own.coding.meaning.equal",
 };
 
+// Those of defaults that are tested: the value is the proof that what passes the test is one value.
+static IDENTIFIER: DefaultTexts = DefaultTexts {
+    name: "TestedIdentifier<&>",
+    test: "(λ v. bytes_eq v ⟦<& as IdentifierValue>⟧.components)",
+    value: "(one_list ⟦<& as IdentifierValue>⟧.components)",
+    detects: "",
+    same: "",
+};
+
+static OCTETS: DefaultTexts = DefaultTexts {
+    name: "TestedOctets<&>",
+    test: "(λ v. bytes_eq v.items ⟦<& as OctetsValue>⟧.octets)",
+    value: "(one_seen octets_of (λ v w. (λ e. e, λ e. e)) (λ o. bytes_eq o ⟦<& as OctetsValue>⟧.octets) (one_list ⟦<& as OctetsValue>⟧.octets))",
+    detects: "",
+    same: "",
+};
+
+static TEXT: DefaultTexts = DefaultTexts {
+    name: "TestedText<&>",
+    test: "(λ v. bytes_eq (characters v) (chars ⟦<& as TextValue>⟧.text))",
+    value: "(one_seen characters (λ v w. (λ e. e, λ e. e)) (λ c. bytes_eq c (chars ⟦<& as TextValue>⟧.text)) (one_list (chars ⟦<& as TextValue>⟧.text)))",
+    detects: "",
+    same: "",
+};
+
+/// Whether a part has a default that is tested, since to make it takes memory.
+pub fn has_tested_default(part: &Part<'_>) -> bool {
+    match &part.presence {
+        Presence::Default(value) => is_tested(value),
+        Presence::Required | Presence::Optional => false,
+    }
+}
+
+// Whether a default is tested, and never made.
+fn is_tested(value: &DefaultValue<'_>) -> bool {
+    match value {
+        DefaultValue::Boolean(_) => false,
+        DefaultValue::Integer(_) => false,
+        DefaultValue::Enumerated(_, _) => false,
+        DefaultValue::ObjectIdentifier(_) => true,
+        DefaultValue::Octets(_) => true,
+        DefaultValue::Text(_) => true,
+    }
+}
+
 /// The notation at the bottom of tags.
 pub fn untagged(notation: &Notation) -> &Notation {
     let mut current = notation;
@@ -108,20 +153,23 @@ pub fn default_texts(notation: &Notation, value: &DefaultValue<'_>) -> &'static 
         DefaultValue::Integer(_) if is_natural(notation) => &NATURAL,
         DefaultValue::Integer(_) => &SIGNED,
         DefaultValue::Enumerated(_, _) => &ITEM,
+        DefaultValue::ObjectIdentifier(_) => &IDENTIFIER,
+        DefaultValue::Octets(_) => &OCTETS,
+        DefaultValue::Text(_) => &TEXT,
     }
 }
 
 // The number of a default, if it is one.
 fn number_of(value: &DefaultValue<'_>) -> Integer {
     match value {
-        DefaultValue::Boolean(_) => Integer {
-            is_negative: false,
-            magnitude: 0,
-        },
         DefaultValue::Integer(number) => *number,
         DefaultValue::Enumerated(_, number) => Integer {
             is_negative: *number < 0,
             magnitude: number.unsigned_abs(),
+        },
+        _ => Integer {
+            is_negative: false,
+            magnitude: 0,
         },
     }
 }

@@ -1,5 +1,6 @@
 //! Where a type differs from its module: why it accepts more, and whether it rejects what a later version adds.
 
+use crate::defaults::has_tested_default;
 use crate::extension::tail_of;
 use asn1_types::model::{Body, Components, Definition, Loosening, Looser, Place};
 use std::alloc::{AllocError, Global};
@@ -46,6 +47,35 @@ pub fn is_set(body: &Body<'_>) -> bool {
     }
 }
 
+// Appends the parts from a place on whose default isn't tested there, though it could be.
+fn push_untested(
+    components: &Components<'_>,
+    start: usize,
+    all: &mut Vec<Difference>,
+) -> Result<(), AllocError> {
+    for (place, part) in components.parts.iter().enumerate() {
+        if place >= start && has_tested_default(part) {
+            all.push(difference_of(Looser {
+                place: part.place,
+                what: Loosening::Default,
+            }))?;
+        }
+    }
+    Ok(())
+}
+
+// Appends the parts of a SET, or at the end of an extensible SEQUENCE, whose default isn't tested there.
+fn push_defaults(body: &Body<'_>, all: &mut Vec<Difference>) -> Result<(), AllocError> {
+    match body {
+        Body::Set(components) => push_untested(components, 0, all),
+        Body::Sequence(components) => match tail_of(components) {
+            Some(start) => push_untested(components, start, all),
+            None => Ok(()),
+        },
+        Body::Choice(_) | Body::Enumerated(_) | Body::Value(_) | Body::Alias(_) => Ok(()),
+    }
+}
+
 /// Where a type accepts more than its module says, but for the components of a SET.
 pub fn inner_differences(
     alloc: Global,
@@ -53,10 +83,9 @@ pub fn inner_differences(
 ) -> Result<Vec<Difference>, AllocError> {
     let mut all = Vec::new(alloc);
     for looser in definition.looser.iter() {
-        if all.push(difference_of(*looser)).is_err() {
-            return Err(AllocError);
-        }
+        all.push(difference_of(*looser))?;
     }
+    push_defaults(&definition.body, &mut all)?;
     Ok(all)
 }
 
@@ -69,16 +98,9 @@ pub fn differences_of(
     if is_set(&definition.body) {
         let place = definition.place;
         let text = SET_TEXT;
-        if all.push(Difference { place, text }).is_err() {
-            return Err(AllocError);
-        }
+        all.push(Difference { place, text })?;
     }
     Ok(all)
-}
-
-/// Whether a type accepts more than its module says.
-pub fn accepts_more(definition: &Definition<'_>) -> bool {
-    is_set(&definition.body) || !definition.looser.is_empty()
 }
 
 /// Whether a SEQUENCE rejects the elements that a later version may add.

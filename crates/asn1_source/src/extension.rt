@@ -7,6 +7,7 @@
 //!
 //! All other marks are those of `parts`.
 
+use crate::defaults::has_tested_default;
 use crate::open_choices::may_be_absent;
 use crate::parts::{Field, Fields, put_mark};
 use crate::terms::TypeNames;
@@ -117,8 +118,8 @@ fn step(text: &str, field: &Field<'_, '_>, terms: &Terms, names: &TypeNames) -> 
 
 fn steps_of(part: &Part<'_>) -> &'static Steps {
     match &part.presence {
-        Presence::Default(_) => &POSSIBLE_DEFAULT,
-        Presence::Required | Presence::Optional => &POSSIBLE,
+        Presence::Default(_) if !has_tested_default(part) => &POSSIBLE_DEFAULT,
+        _ => &POSSIBLE,
     }
 }
 

@@ -7,6 +7,7 @@
 pub static CLAUSE_IMPORTS: &str = "\
 Rattle.std.specs.Prelude: *◌≡◌ *◌↔◌ *IsTrue Some int_le length nat_eq negsuc not pos false true refl
 Rattle.std.specs.Ordering: int_eq
+Rattle.std.specs.Str: bytes_eq chars
 Rattle.std.proofs.Common: ap arith
 Rattle.yasna_base.specs.Integer: twos
 Rattle.yasna_base.specs.Text: characters
@@ -16,7 +17,7 @@ Rattle.yasna_bytes.specs.Contents: big_integer_in
 Rattle.yasna_bytes.specs.Segments: bits_in
 Rattle.yasna_notation.specs.Bounded: passes_alike within_lawful
 Rattle.yasna_notation.specs.Canonical: bounded_written choice_written_as last_part_writes represented_written
-Rattle.yasna_notation.specs.Laws: element_non_empty raw_non_empty represented_lawful
+Rattle.yasna_notation.specs.Laws: element_non_empty octets_of raw_non_empty represented_lawful
 Rattle.yasna_notation.specs.Making: alternative at_most default_part exactly from_to in_application in_bound in_choice
 Rattle.yasna_notation.specs.Making: in_explicit in_implicit in_sequence in_sequence_of in_set_of list_sized not_empty octets_sized
 Rattle.yasna_notation.specs.Making: application context optional_part part set_not_empty set_sized tag_or
@@ -30,7 +31,9 @@ Rattle.yasna_notation.specs.Writing: sequence_of_written sequence_written set_of
 Rattle.yasna_notation.specs.declared.choices.Either.TheVariants: First Second
 Rattle.yasna_notation_constraints.specs.Defaults: detects_integer detects_true
 Rattle.yasna_notation_constraints.specs.Numbers: between same_number
+Rattle.yasna_notation_constraints.specs.OrDefault: or_default_laws or_default_writes
 Rattle.yasna_notation_constraints.specs.Sizes: bit_sizes from_on
+Rattle.yasna_notation_constraints.specs.TestedDefaults: one_list one_seen
 Rattle.yasna_notation_tags.specs.Making: explicit_application explicit_application_written explicit_private explicit_private_written
 Rattle.yasna_notation_tags.specs.Making: in_private in_universal under_private under_universal
 Rattle.yasna_notation_types.specs.Named: named_lawful named_written
@@ -89,7 +92,8 @@ yasna_notation::Either: First Second
 yasna_notation: Alternatives Application AtMost BigInteger BitString Bounded CanonicalAlternatives CanonicalNotation CanonicalParts Choice Context Default DefaultValue Either
 yasna_notation: Enumerated Exactly Explicit False FromTo Ia5String Implicit Last Message NotEmpty Notation NumericString Optional
 yasna_notation: PartsBy>Parts PartsBy PrintableString Represents Sequence SequenceOf SetOf VisibleString read_as
-yasna_notation_constraints: IntegerFrom IntegerFromTo IntegerUpTo Natural Signed SizeFrom SizeFromTo SizeIs True Unset
+yasna_notation_constraints: Identifier=TestedIdentifier IdentifierValue IntegerFrom IntegerFromTo IntegerUpTo Natural Octets=TestedOctets
+yasna_notation_constraints: OctetsValue OrDefault Signed SizeFrom SizeFromTo SizeIs Text=TestedText TextValue True Unset
 yasna_notation_tags: BmpString Private Universal explicit_fields_len implicit_fields_len prepend_explicit_fields prepend_implicit_fields
 yasna_notation_tags: write_explicit_fields write_implicit_fields
 yasna_notation_types: Named NamedBits Numbered OpenChoice Others Possible PossibleDefault Rest

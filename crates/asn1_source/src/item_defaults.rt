@@ -4,8 +4,9 @@ use crate::defaults::untagged;
 use crate::naming::item_names;
 use crate::parts::{Field, Fields, put_default_name};
 use crate::template::Fragments;
-use crate::templates::{ITEM_CLAUSES, ITEM_DEFAULT};
+use crate::templates::{ITEM_CLAUSES, ITEM_DEFAULT, LIST_CLAUSES};
 use crate::terms::{Aspect, TypeName, put_integer, put_notation};
+use crate::tested_types::put_tested_types;
 use crate::type_source::CrateSource;
 use asn1_types::model::{Body, DefaultValue, Enumeration, Integer, Notation, Presence};
 use std::alloc::{AllocError, Global};
@@ -119,8 +120,8 @@ fn item_of(
     Ok(Some(fragments))
 }
 
-/// Sets `d` to the types of the defaults of parts that are items, and `j` to what they bring in.
-pub fn set_item_defaults(
+/// Sets `d` to the types of the defaults of parts, of items and of values that are tested, and `j` to what they bring in.
+pub fn set_default_types(
     alloc: Global,
     fragments: &mut Fragments,
     source: &CrateSource<'_, '_>,
@@ -134,6 +135,9 @@ pub fn set_item_defaults(
             item.fill(ITEM_DEFAULT, &mut types);
             item.fill(ITEM_CLAUSES, &mut clauses);
         }
+    }
+    if put_tested_types(fields, &mut types) {
+        clauses.say(LIST_CLAUSES);
     }
     fragments.set(b'd', types);
     fragments.set(b'j', clauses);

@@ -31,6 +31,7 @@ mod shapes;
 mod template;
 mod templates;
 mod terms;
+mod tested_types;
 mod tests_source;
 mod text;
 mod type_imports;

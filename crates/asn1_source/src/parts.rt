@@ -8,9 +8,10 @@
 //! | `@u` | the name of the field of the elements that this version doesn't know |
 //! | `@D` | the type of its default |
 //! | `@I`, `@E`, `@T` | the test for the default, the default, and the term that the test detects it, in clauses |
+//! | `@E` of a tested one | the term that the values that pass the test are one value |
 //! | `@S` | the term that values that equal the default are detected alike |
 
-use crate::defaults::{default_shape, default_texts, untagged};
+use crate::defaults::{default_shape, default_texts, has_tested_default, untagged};
 use crate::extension::put_tail_law;
 use crate::terms::{Aspect, TypeNames, put_notation, put_shaped};
 use crate::text::Text;
@@ -29,8 +30,10 @@ pub struct Listing {
     pub last: &'static str,
     /// What is in place of a part after the last one.
     pub end: &'static str,
-    /// What closes each part that was opened.
+    /// What closes each of these parts.
     pub close: &'static str,
+    /// One with a DEFAULT that is tested, and what closes it.
+    pub tested: [&'static str; 2],
     /// A part that is OPTIONAL, at the end of an extensible SEQUENCE.
     pub possible: &'static str,
     /// One with a DEFAULT there.
@@ -49,6 +52,7 @@ pub static NOTATIONS: Listing = Listing {
     last: "Last<@N>",
     end: "()",
     close: ")",
+    tested: ["OrDefault<@N, @D, ", ">"],
     possible: "Possible<@N, ",
     possible_default: "PossibleDefault<@N, @D, ",
     possible_close: ">",
@@ -63,6 +67,7 @@ pub static VALUES: Listing = Listing {
     last: "Option<@V>",
     end: "()",
     close: ")",
+    tested: ["(Option<@V>, ", ")"],
     possible: "(Option<@V>, ",
     possible_default: "(@V, ",
     possible_close: ")",
@@ -77,6 +82,10 @@ pub static FIELDS: Listing = Listing {
     last: "    pub @f: Option<@V>,\n",
     end: "",
     close: "",
+    tested: [
+        "    /// `None` is the default.\n    pub @f: Option<@V>,\n",
+        "",
+    ],
     possible: "    pub @f: Option<@V>,\n",
     possible_default: "    pub @f: @V,\n",
     possible_close: "",
@@ -94,6 +103,7 @@ pub static VALUE_OF: Listing = Listing {
     last: "v.@f",
     end: "tt",
     close: ")",
+    tested: ["(v.@f, ", ")"],
     possible: "(v.@f, ",
     possible_default: "(v.@f, ",
     possible_close: ")",
@@ -108,6 +118,7 @@ pub static HELD: Listing = Listing {
     last: "r.now.@f",
     end: "tt",
     close: ")",
+    tested: ["(r.now.@f, ", ")"],
     possible: "(r.now.@f, ",
     possible_default: "(r.now.@f, ",
     possible_close: ")",
@@ -122,6 +133,7 @@ pub static PATTERN: Listing = Listing {
     last: "@f",
     end: "()",
     close: ")",
+    tested: ["(@f, ", ")"],
     possible: "(@f, ",
     possible_default: "(@f, ",
     possible_close: ")",
@@ -136,6 +148,7 @@ pub static NAMES: Listing = Listing {
     last: "@f, ",
     end: "",
     close: "",
+    tested: ["@f, ", ""],
     possible: "@f, ",
     possible_default: "@f, ",
     possible_close: "",
@@ -150,6 +163,7 @@ pub static REFERENCES: Listing = Listing {
     last: "&value.@f",
     end: "()",
     close: ")",
+    tested: ["(&value.@f, ", ")"],
     possible: "(&value.@f, ",
     possible_default: "(&value.@f, ",
     possible_close: ")",
@@ -164,6 +178,10 @@ pub static LAW: Listing = Listing {
     last: "(last_part_laws @L.own)",
     end: "no_parts",
     close: ")",
+    tested: [
+        "(or_default_laws {a = true} {b = true} @I @E (λ _. @L.own) (λ _. ",
+        ") refl)",
+    ],
     possible: "",
     possible_default: "",
     possible_close: "",
@@ -178,6 +196,10 @@ pub static WRITTEN: Listing = Listing {
     last: "(last_part_writes @W.own)",
     end: "no_part_written",
     close: ")",
+    tested: [
+        "(or_default_writes {a = true} {b = true} @I @E true true true (λ _. @W.own) (λ _. ",
+        ") (λ _. @L.own) refl)",
+    ],
     possible: "",
     possible_default: "",
     possible_close: "",
@@ -288,17 +310,27 @@ fn has_default(part: &Part<'_>) -> bool {
     }
 }
 
-fn listed(listing: &'static Listing, part: &Part<'_>, is_tail: bool) -> &'static str {
-    if is_tail {
-        return if has_default(part) {
-            listing.possible_default
-        } else {
-            listing.possible
-        };
+// How a part at the end of an extensible SEQUENCE is listed. A default that is tested elsewhere is none there.
+fn listed_at_end(listing: &'static Listing, part: &Part<'_>) -> &'static str {
+    if has_default(part) && !has_tested_default(part) {
+        listing.possible_default
+    } else {
+        listing.possible
+    }
+}
+
+// How another part is listed, and what closes it.
+fn listed(listing: &'static Listing, part: &Part<'_>) -> [&'static str; 2] {
+    if has_tested_default(part) {
+        return listing.tested;
     }
     if is_last(part) {
-        return listing.last;
+        return [listing.last, ""];
     }
+    [opened(listing, part), listing.close]
+}
+
+fn opened(listing: &'static Listing, part: &Part<'_>) -> &'static str {
     if is_optional(part) {
         return listing.optional;
     }
@@ -309,7 +341,7 @@ fn listed(listing: &'static Listing, part: &Part<'_>, is_tail: bool) -> &'static
     }
 }
 
-/// Appends the name of the type of the default of a field, whose values are those of an ENUMERATED.
+/// Appends the name of the type of the default of a field: an item of an ENUMERATED, or a value that is tested.
 pub fn put_default_name(field: &[u8], out: &mut Text) {
     put_camel(field, out);
     out.say("Default");
@@ -423,7 +455,7 @@ fn put_tail(
     let count = fields.parts.len().saturating_sub(start);
     for place in start..fields.parts.len() {
         let Some(field) = fields.at(place) else { break };
-        put_part(listed(listing, field.part, true), &field, names, out);
+        put_part(listed_at_end(listing, field.part), &field, names, out);
     }
     let [rest, others] = listing.rest;
     put_unknown(
@@ -432,6 +464,23 @@ fn put_tail(
         out,
     );
     out.repeat(listing.possible_close, count);
+}
+
+// Appends what closes the first parts, from the last of them on.
+fn put_closers(
+    listing: &'static Listing,
+    fields: &Fields<'_, '_>,
+    count: usize,
+    names: &TypeNames,
+    out: &mut Text,
+) {
+    for back in 0..count {
+        let Some(field) = fields.at(count - 1 - back) else {
+            continue
+        };
+        let [_, close] = listed(listing, field.part);
+        put_part(close, &field, names, out);
+    }
 }
 
 /// Appends parts as a listing says. `end` is in place of what follows them, but for the elements that this version doesn't know.
@@ -446,21 +495,17 @@ pub fn put_parts(
         Some(start) => start,
         None => fields.parts.len(),
     };
-    let mut opened = 0usize;
     let mut is_ended = false;
     for place in 0..count {
         let Some(field) = fields.at(place) else { break };
-        put_part(listed(listing, field.part, false), &field, names, out);
-        if is_last(field.part) {
-            is_ended = true;
-        } else {
-            opened = opened.saturating_add(1);
-        }
+        let [open, _] = listed(listing, field.part);
+        put_part(open, &field, names, out);
+        is_ended = is_ended || is_last(field.part);
     }
     match fields.tail {
         Some(start) => put_tail(listing, fields, start, names, out),
         None if is_ended => {}
         None => out.put(end),
     }
-    out.repeat(listing.close, opened);
+    put_closers(listing, fields, count, names, out);
 }

@@ -1,6 +1,6 @@
 //! The sources of the parts of a long SEQUENCE: those after the first ones have a file and a name of their own.
 
-use crate::item_defaults::set_item_defaults;
+use crate::item_defaults::set_default_types;
 use crate::open_choices::may_be_absent;
 use crate::parts::{Fields, HELD};
 use crate::sequence_source::{RestName, first_of, set_all, set_references, set_run_texts};
@@ -91,7 +91,7 @@ fn rest_source(
     set_run_texts(alloc, &mut fragments, &first, rest, source.names);
     set_references(&mut fragments, b'E', &first, rest, "*value", source.names);
     set_all(&mut fragments, b'H', &HELD, fields, source.names);
-    set_item_defaults(alloc, &mut fragments, source, &first)?;
+    set_default_types(alloc, &mut fragments, source, &first)?;
     fragments.set_filled(b'V', "@U");
     fragments.set_term(b'7', "@Q", 25);
     fragments.set_term(b'8', "@X", 25);

@@ -1,10 +1,11 @@
 //! Samples: for each type, encodings in DER of two of its values. Tests read and write them.
 
+use crate::defaults::has_tested_default;
 use crate::sample_octets::{put_element, put_number, put_primitive, put_retagged};
 use crate::text::Text;
 use asn1_types::model::{
-    Alternatives, Body, Components, Definition, Enumeration, Integer, IntegerBounds, Notation,
-    Presence, Size, Tag, TagClass, TagLayer, TagMode, TextKind,
+    Alternatives, Body, Components, DefaultValue, Definition, Enumeration, Integer, IntegerBounds,
+    Notation, Part, Presence, Size, Tag, TagClass, TagLayer, TagMode, TextKind,
 };
 use std::alloc::{AllocError, Global};
 
@@ -40,6 +41,9 @@ impl Sample {
 const MOST_OCTETS: usize = 4000;
 
 const MOST_ITEMS: u64 = 300;
+
+// The arcs of the sample of an OBJECT IDENTIFIER.
+static SAMPLE_ARCS: [u64; 3] = [1, 2, 3];
 
 // What samples are made of: those of the definitions before.
 #[derive(Clone, Copy)]
@@ -202,15 +206,19 @@ impl Sampler<'_> {
     fn contents_of(&self, components: &Components<'_>) -> Result<Option<Text>, AllocError> {
         let mut contents = Text::new(self.alloc);
         for part in components.parts.iter() {
+            let is_full = self.extent == Extent::Full;
             let is_there = match &part.presence {
-                Presence::Required => !part.is_addition || self.extent == Extent::Full,
-                Presence::Optional => self.extent == Extent::Full,
-                Presence::Default(_) => false,
+                Presence::Required => !part.is_addition || is_full,
+                Presence::Optional => is_full,
+                Presence::Default(_) => is_full && has_tested_default(part),
             };
             if !is_there {
                 continue;
             }
             let sample = self.sample(&part.notation)?;
+            if may_be_default(part, sample.as_slice()) {
+                continue;
+            }
             if !sample.as_slice().is_empty() {
                 contents.put(sample.as_slice());
             } else if matches!(&part.presence, Presence::Required) {
@@ -285,6 +293,19 @@ impl Sampler<'_> {
             Some(octets) => Ok(octets),
             None => Err(AllocError),
         }
+    }
+}
+
+// Whether the sample of a part may be its default, which DER omits.
+fn may_be_default(part: &Part<'_>, sample: &[u8]) -> bool {
+    let Presence::Default(value) = &part.presence else {
+        return false;
+    };
+    match value {
+        DefaultValue::ObjectIdentifier(arcs) => arcs.as_slice() == SAMPLE_ARCS.as_slice(),
+        DefaultValue::Octets(octets) => sample.ends_with(octets.as_slice()),
+        DefaultValue::Text(text) => sample.ends_with(*text),
+        _ => true,
     }
 }
 

@@ -365,6 +365,51 @@ impl DefaultValue<@B> for @X {
 pub static ITEM_CLAUSES: &str =
     "ghost use Rattle.@K.specs.declared.@F.@C.TheVariants.{@v as @XValue};\n";
 
+/// The value of a default of an OBJECT IDENTIFIER. `@X` is its type, `@f` the field, `@n` the arcs in clauses, `@r` in Rust.
+pub static IDENTIFIER_DEFAULT: &str = "
+/// The default of `@f`.
+pub struct @X;
+
+impl IdentifierValue for @X {
+    ghost components = { @n };
+
+    fn components() -> &'static [u64] {
+        &[@r]
+    }
+}
+";
+
+/// That of an OCTET STRING, with the octets in place of the arcs.
+pub static OCTETS_DEFAULT: &str = "
+/// The default of `@f`.
+pub struct @X;
+
+impl OctetsValue for @X {
+    ghost octets = { @n };
+
+    fn octets() -> &'static [u8] {
+        &[@r]
+    }
+}
+";
+
+/// That of a string of characters.
+pub static TEXT_DEFAULT: &str = "
+/// The default of `@f`.
+pub struct @X;
+
+impl TextValue for @X {
+    ghost text = { @n };
+
+    fn text() -> &'static str {
+        \"@r\"
+    }
+}
+";
+
+/// What the source of such a default brings in.
+pub static LIST_CLAUSES: &str = "ghost use Rattle.std.specs.Prelude.{◌∷◌, []};\n";
+
 /// The specs of an enum. `@K` is its crate, `@F` its file, `@G` its variants, `@3` and `@4` the lines of a clause for each, `@5` its numbers.
 pub static ENUMERATION_SPECS: &str = "-- The numbers of `@a`.
 use Rattle.std.proofs.Common.{◌≡◌, ◌∷◌, [], ℤ, List, Bool, true, pos, negsuc, refl, FitsSigned, arith}

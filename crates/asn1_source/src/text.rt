@@ -20,6 +20,11 @@ impl Text {
         }
     }
 
+    /// The allocator.
+    pub fn alloc(&self) -> Global {
+        self.alloc
+    }
+
     /// Another text, which is empty.
     pub fn another(&self) -> Text {
         Text::new(self.alloc)

@@ -8,7 +8,7 @@ use crate::enumeration_source::{enumeration_of, set_enumeration, specs_of};
 use crate::extension::tail_of;
 use crate::head::{ModuleSource, put_head, put_path};
 use crate::imports::{Words, put_clause_table, put_code_table};
-use crate::item_defaults::set_item_defaults;
+use crate::item_defaults::set_default_types;
 use crate::naming::{field_names, item_names, variant_names};
 use crate::parts::fields_of;
 use crate::parts_source::{first_run, put_rests};
@@ -265,7 +265,7 @@ fn add_sequence(
     let count = first_run(&fields);
     let names = source.names;
     set_sequence(alloc, &mut fragments, count, &rest, &fields, tags, names);
-    set_item_defaults(alloc, &mut fragments, source, &fields.first(count))?;
+    set_default_types(alloc, &mut fragments, source, &fields.first(count))?;
     fragments.set_filled(b'e', rest_clauses(has_rest, name.is_canonical));
     add_type(
         alloc,

@@ -15,7 +15,7 @@ static RESERVED: [&str; 68] = [
 ];
 
 // Names that the sources themselves use.
-static TAKEN: [&str; 97] = [
+static TAKEN: [&str; 104] = [
     "ASN1Result",
     "Alternatives",
     "Any",
@@ -61,6 +61,7 @@ static TAKEN: [&str; 97] = [
     "GeneralizedTime",
     "Global",
     "Ia5String",
+    "IdentifierValue",
     "Implicit",
     "Inner",
     "IntegerFrom",
@@ -82,11 +83,13 @@ static TAKEN: [&str; 97] = [
     "Numbered",
     "NumericString",
     "ObjectIdentifier",
+    "OctetsValue",
     "Ok",
     "Omitted",
     "OpenChoice",
     "Option",
     "Optional",
+    "OrDefault",
     "Others",
     "Parts",
     "PartsBy",
@@ -109,6 +112,10 @@ static TAKEN: [&str; 97] = [
     "String",
     "Tag",
     "TaggedDerValue",
+    "TestedIdentifier",
+    "TestedOctets",
+    "TestedText",
+    "TextValue",
     "Types",
     "UTCTime",
     "Universal",

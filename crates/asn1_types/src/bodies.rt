@@ -202,7 +202,7 @@ fn presence_of<'a>(
         WrittenPresence::Optional => Ok(Presence::Optional),
         WrittenPresence::Default(value) => {
             let value = value.as_slice();
-            if let Some(default) = default_value(r, at, notation, value) {
+            if let Some(default) = default_value(r, at, notation, value)? {
                 return Ok(Presence::Default(default));
             }
             note(r, first_place(source.module, value), Loosening::Default)?;

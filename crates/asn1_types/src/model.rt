@@ -109,6 +109,12 @@ pub enum DefaultValue<'a> {
     Integer(Integer),
     /// An item of an ENUMERATED: its name and its number.
     Enumerated(&'a [u8], i64),
+    /// An OBJECT IDENTIFIER: its arcs.
+    ObjectIdentifier(Vec<u64>),
+    /// The octets of an OCTET STRING.
+    Octets(Vec<u8>),
+    /// A string of printable characters of ASCII, as its source writes it between quotation marks. None of them is a quotation mark.
+    Text(&'a [u8]),
 }
 
 /// The alternatives of a CHOICE.

@@ -116,6 +116,25 @@ pub fn integer_value<'a>(
     Err(no_number(module, value))
 }
 
+/// The one lexical item that a value is, through names of values.
+pub fn item_of_value<'a>(
+    scope: Scope<'a>,
+    module: usize,
+    value: &'a [Token<'a>],
+) -> Option<Token<'a>> {
+    let mut at = NamedValue { module, value };
+    for _ in 0..MAX_NAMES {
+        match at.value {
+            [name] if name.kind == TokenKind::Identifier => {
+                at = value_of(scope, at.module, *name).ok()?;
+            }
+            [item] => return Some(*item),
+            _ => return None,
+        }
+    }
+    None
+}
+
 /// The number that a lexical item is: digits, or the name of a value.
 pub fn number_of<'a>(
     scope: Scope<'a>,

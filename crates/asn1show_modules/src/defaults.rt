@@ -71,6 +71,9 @@ pub fn default_of(builder: &mut Builder, part: &Part<'_>) -> Result<DefaultValue
             text: builder.add_name(name)?,
             number: Some(number_of_i64(*number)),
         }),
+        model::DefaultValue::ObjectIdentifier(_)
+        | model::DefaultValue::Octets(_)
+        | model::DefaultValue::Text(_) => Ok(NO_DEFAULT),
     }
 }
 

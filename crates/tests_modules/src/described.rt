@@ -141,6 +141,21 @@ fn describe_notation(out: &mut Description, notation: &Notation) {
     }
 }
 
+fn describe_arcs(out: &mut Description, arcs: &[u64]) {
+    for arc in arcs {
+        out.put(".");
+        out.number(*arc);
+    }
+}
+
+fn describe_octets(out: &mut Description, octets: &[u8]) {
+    out.put("octets");
+    for octet in octets {
+        out.put(" ");
+        out.number(u64::from(*octet));
+    }
+}
+
 fn describe_default(out: &mut Description, value: &DefaultValue<'_>) {
     out.put(" DEFAULT ");
     match value {
@@ -151,6 +166,13 @@ fn describe_default(out: &mut Description, value: &DefaultValue<'_>) {
             out.name(name);
             out.put(" ");
             out.signed(*number);
+        }
+        DefaultValue::ObjectIdentifier(arcs) => describe_arcs(out, arcs.as_slice()),
+        DefaultValue::Octets(octets) => describe_octets(out, octets.as_slice()),
+        DefaultValue::Text(text) => {
+            out.put("\"");
+            out.name(text);
+            out.put("\"");
         }
     }
 }
@@ -276,12 +298,7 @@ fn describe_value(out: &mut Description, value: &Value<'_>) {
             out.put("bit ");
             out.number(*number);
         }
-        Value::ObjectIdentifier(arcs) => {
-            for arc in arcs {
-                out.put(".");
-                out.number(*arc);
-            }
-        }
+        Value::ObjectIdentifier(arcs) => describe_arcs(out, arcs.as_slice()),
         Value::Text(text) => out.name(text),
     }
 }

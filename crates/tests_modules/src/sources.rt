@@ -107,6 +107,39 @@ static VALUES: [Row; 5] = [
     ),
 ];
 
+const LABEL: &[u8] =
+    b"M DEFINITIONS IMPLICIT TAGS ::= BEGIN Label ::= SEQUENCE { kind OBJECT IDENTIFIER DEFAULT id, flag BOOLEAN OPTIONAL, key [0] EXPLICIT OCTET STRING DEFAULT '0102'H, text IA5String (SIZE (1..8)) DEFAULT \"a\\b\" } id OBJECT IDENTIFIER ::= { 2 999 1 } END";
+
+// Defaults that are tested, and never made: an object identifier, octets and a string.
+static TESTED: [Row; 6] = [
+    (
+        LABEL,
+        "src/label.rt",
+        "type Parts = OrDefault<ObjectIdentifier, TestedIdentifier<KindDefault>, (Optional<bool>, OrDefault<Explicit<Context<0>, Vec<u8>>, TestedOctets<KeyDefault>, LabelParts2>)>;\n",
+    ),
+    (
+        LABEL,
+        "src/label_parts2.rt",
+        "type Each = OrDefault<Bounded<Ia5String, SizeFromTo<1, 8>>, TestedText<TextDefault>, ()>;\n",
+    ),
+    (
+        LABEL,
+        "src/label.rt",
+        "    ghost components = { 2 ∷ 999 ∷ 1 ∷ [] };\n\n    fn components() -> &'static [u64] {\n        &[2, 999, 1]\n    }\n",
+    ),
+    (
+        LABEL,
+        "src/label_parts2.rt",
+        "    ghost text = { 97 ∷ 92 ∷ 98 ∷ [] };\n\n    fn text() -> &'static str {\n        \"a\\\\b\"\n    }\n",
+    ),
+    (LABEL, "list", "Label: exact, canonical\n"),
+    (
+        b"M DEFINITIONS ::= BEGIN Label ::= SEQUENCE { id NULL, text UTF8String DEFAULT \"a\", ... } Badge ::= SET { text UTF8String DEFAULT \"a\" } END",
+        "list",
+        "Label: accepts more\nBadge: accepts more: the components of a SET aren't read\n",
+    ),
+];
+
 const HEADS: &[u8] =
     b"M DEFINITIONS ::= BEGIN Head ::= SEQUENCE { id NULL, ..., ..., name UTF8String } Tail ::= SEQUENCE { id NULL, ... } END";
 
@@ -272,6 +305,11 @@ fn sequences_are_written(rt: HostRuntime) {
 #[test]
 fn enumerations_are_written(rt: HostRuntime) {
     assert!(rt; first_missing(rt.alloc(), &VALUES, &[]).is_none());
+}
+
+#[test]
+fn tested_defaults_are_written(rt: HostRuntime) {
+    assert!(rt; first_missing(rt.alloc(), &TESTED, &[]).is_none());
 }
 
 #[test]

@@ -48,10 +48,14 @@ static AUTOMATIC_TAGS: [Row; 3] = [
 ];
 
 // Values: defaults (24.10), named numbers, ENUMERATED (20.3 to 20.6), and object identifiers (31).
-static VALUES: [Row; 3] = [
+static VALUES: [Row; 4] = [
     (
         b"M DEFINITIONS AUTOMATIC TAGS ::= BEGIN A ::= SEQUENCE { a B DEFAULT b1, c BOOLEAN DEFAULT TRUE, d INTEGER DEFAULT -3, e E DEFAULT g, h INTEGER DEFAULT i, j OCTET STRING DEFAULT ''H } B ::= INTEGER { b1(7) } E ::= ENUMERATED { f, g } i INTEGER ::= k k INTEGER ::= 12 END",
-        "B. = INTEGER\nE. ENUMERATED f 0, g 1,\nA. SEQUENCE a [0 I] INTEGER DEFAULT 7, c [1 I] BOOLEAN DEFAULT TRUE, d [2 I] INTEGER DEFAULT -3, e [3 I] #1 DEFAULT g 1, h [4 I] INTEGER DEFAULT 12, j [5 I] OCTETS OPTIONAL, !default\nB.b1 = 7\ni = 12\nk = 12\n",
+        "B. = INTEGER\nE. ENUMERATED f 0, g 1,\nA. SEQUENCE a [0 I] INTEGER DEFAULT 7, c [1 I] BOOLEAN DEFAULT TRUE, d [2 I] INTEGER DEFAULT -3, e [3 I] #1 DEFAULT g 1, h [4 I] INTEGER DEFAULT 12, j [5 I] OCTETS DEFAULT octets,\nB.b1 = 7\ni = 12\nk = 12\n",
+    ),
+    (
+        b"M DEFINITIONS AUTOMATIC TAGS ::= BEGIN A ::= SEQUENCE { a OBJECT IDENTIFIER DEFAULT { d 2 }, b OCTET STRING DEFAULT '0 F'H, c UTF8String DEFAULT e, f OCTET STRING DEFAULT '000000011'B, g IA5String DEFAULT \"a\"\"b\", h BMPString DEFAULT \"a\", i OBJECT IDENTIFIER DEFAULT j, k OCTET STRING DEFAULT '0000 0011'B } d OBJECT IDENTIFIER ::= { iso 2 } e UTF8String ::= \"a b\" END",
+        "A. SEQUENCE a [0 I] OID DEFAULT .1.2.2, b [1 I] OCTETS DEFAULT octets 15, c [2 I] UTF8 DEFAULT \"a b\", f [3 I] OCTETS OPTIONAL, g [4 I] IA5 OPTIONAL, h [5 I] BMP OPTIONAL, i [6 I] OID OPTIONAL, k [7 I] OCTETS DEFAULT octets 3, !default !default !default !default\nd = .1.2\ne = a b\n",
     ),
     (
         b"M DEFINITIONS ::= BEGIN A ::= ENUMERATED { a, b(0), c, ..., d, e(9), f } B ::= BIT STRING { g(0), h(5) } C ::= ENUMERATED { i(1), j(1) } END",
