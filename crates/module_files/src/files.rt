@@ -1,5 +1,5 @@
 //! The files of the modules, and what is wrong in them.
-ghost use Rattle.std.specs.Prelude.{◌≡◌, ◌↔◌, []};
+ghost use Rattle.std.specs.Prelude.{◌≡◌, ◌↔◌, ◌⊎◌, [], IfErr};
 
 use crate::location::report_at;
 use asn1_syntax::tree::Module;
@@ -20,8 +20,10 @@ pub struct ModuleFile<'a> {
     pub source: Vec<u8>,
 }
 
-/// Reads the files. Else the error is printed, and the exit status is returned.
-pub fn read_files<'a>(rt: &HostRuntime, names: &[&'a str]) -> Result<Vec<ModuleFile<'a>>, u8> {
+/// Reads the files. Else the error is printed, and the exit status is returned, which is 3.
+pub fn read_files<'a>(rt: &HostRuntime, names: &[&'a str]) -> Result<Vec<ModuleFile<'a>>, u8>
+    ensures { IfErr result (λ status. status ≡ 3) }
+{
     let mut files = Vec::new(rt.alloc());
     for name in names {
         let source = Input::named(Some(*name)).read(rt)?;
@@ -48,7 +50,9 @@ pub struct Modules<'a> {
 }
 
 // Prints why a file is rejected, and returns the status.
-fn reject(rt: &HostRuntime, file: &ModuleFile<'_>, error: SyntaxError) -> u8 {
+fn reject(rt: &HostRuntime, file: &ModuleFile<'_>, error: SyntaxError) -> u8
+    ensures { (result ≡ 1) ⊎ (result ≡ 3) }
+{
     match error {
         SyntaxError::Memory => ProgramError::Memory.report(rt),
         SyntaxError::Malformed { offset, expected } => {
@@ -70,8 +74,10 @@ fn add_modules<'a>(all: &mut Modules<'a>, place: usize, modules: Vec<Module<'a>>
     true
 }
 
-/// The modules of files. Else each error is printed, and the exit status is returned.
-pub fn parse_files<'a>(rt: &HostRuntime, files: &'a [ModuleFile<'a>]) -> Result<Modules<'a>, u8> {
+/// The modules of files. Else each error is printed, and the exit status is returned: 1 if a file is rejected, and 3 if memory ran out.
+pub fn parse_files<'a>(rt: &HostRuntime, files: &'a [ModuleFile<'a>]) -> Result<Modules<'a>, u8>
+    ensures { IfErr result (λ status. (status ≡ 1) ⊎ (status ≡ 3)) }
+{
     let alloc = rt.alloc();
     let mut all = Modules {
         modules: Vec::new(alloc),

@@ -1,6 +1,8 @@
 //! The tables of the types of modules in files, for the programs whose inputs are of these types.
 #![tactic(auto)]
 
+ghost use Rattle.std.specs.Prelude.{◌≡◌, ◌⊎◌, IfErr};
+
 use asn1_types::model::KnownType;
 use asn1_types::resolve;
 use asn1show_modules::{position_of_reference, schema_of};
@@ -12,7 +14,9 @@ use program_io::{ProgramError, report};
 const NO_TYPE: u8 = 1;
 
 // Prints that no module has the type, after what is wrong in the modules, and returns the status.
-fn reject(rt: &HostRuntime, type_name: &str) -> u8 {
+fn reject(rt: &HostRuntime, type_name: &str) -> u8
+    ensures { result ≡ 1 }
+{
     report(rt, type_name, &"no module has this type");
     NO_TYPE
 }
@@ -24,7 +28,9 @@ fn resolved_schema<'a>(
     modules: &'a Modules<'a>,
     known: &'a [KnownType<'a>],
     type_name: &str,
-) -> Result<Schema, u8> {
+) -> Result<Schema, u8>
+    ensures { IfErr result (λ status. (status ≡ 1) ⊎ (status ≡ 3)) }
+{
     let Ok(resolved) = resolve(rt.alloc(), modules.modules.as_slice(), known) else {
         return Err(ProgramError::Memory.report(rt));
     };
@@ -46,7 +52,9 @@ fn lent_schema<'a>(
     rt: &HostRuntime,
     files: &'a [ModuleFile<'a>],
     type_name: &str,
-) -> Result<Schema, u8> {
+) -> Result<Schema, u8>
+    ensures { IfErr result (λ status. (status ≡ 1) ⊎ (status ≡ 3)) }
+{
     let modules = parse_files(rt, files)?;
     match Box::new(rt.alloc(), modules) {
         Ok(modules) => {
@@ -57,8 +65,11 @@ fn lent_schema<'a>(
     }
 }
 
-/// The tables of the modules in these files, for values of a type. Else the error is printed, and the exit status is returned.
-pub fn schema_of_files(rt: &HostRuntime, names: &[&str], type_name: &str) -> Result<Schema, u8> {
+/// The tables of the modules in these files, for values of a type. Else the error is printed, and the exit status is returned: 1 if a file is
+/// rejected or none has the type, and 3 if a file can't be read or memory ran out.
+pub fn schema_of_files(rt: &HostRuntime, names: &[&str], type_name: &str) -> Result<Schema, u8>
+    ensures { IfErr result (λ status. (status ≡ 1) ⊎ (status ≡ 3)) }
+{
     let files = read_files(rt, names)?;
     lent_schema(rt, files.as_slice(), type_name)
 }
