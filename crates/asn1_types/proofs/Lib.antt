@@ -1,2 +1,5 @@
 pub mod TagsBefore
 pub mod Layered
+pub mod Later
+pub mod Growing
+pub mod Adding

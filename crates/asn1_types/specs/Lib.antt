@@ -6,3 +6,8 @@ pub mod Layers
 pub mod Numbers
 pub mod Presence
 pub mod Parts
+pub mod Bounds
+pub mod Context
+pub mod Notations
+pub mod Definitions
+pub mod PartsOf

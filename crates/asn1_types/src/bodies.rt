@@ -1,8 +1,10 @@
 //! The tags, the parts and the bodies of SEQUENCEs, SETs and CHOICEs.
 ghost use Rattle.std.specs.Prelude.{◌≡◌, [], IfOk, OnOk, map, not};
 ghost use Rattle.std.specs.List.{enumerate_from};
+ghost use Rattle.asn1_types.specs.Context.{IsUnchanged};
 ghost use Rattle.asn1_types.specs.Layers.{AreLayers};
 ghost use Rattle.asn1_types.specs.Numbers.{AreNumbers, has_own_tag, is_added, number_at};
+ghost use Rattle.asn1_types.specs.Notations.{HasParts, alternative_of};
 ghost use Rattle.asn1_types.specs.Parts.{IsFinished};
 ghost use Rattle.asn1_types.specs.Presence.{KeepsPresence};
 ghost use Rattle.asn1_types.specs.Tagged.{IsTaggedIf};
@@ -22,7 +24,7 @@ use crate::problem::{Problem, ProblemKind, Stop, problem_of_two};
 use crate::resolver::{Resolver, environment, note};
 use crate::tags::{automatic_number, is_tagged_automatically};
 use crate::tags_of_types::{Distinction, check_tags};
-use crate::tokens::is;
+use crate::tokens::is_word;
 use asn1_syntax::Token;
 use asn1_syntax::tree::{Presence as WrittenPresence, TypeNotation};
 use std::alloc::{AllocError, Global};
@@ -75,7 +77,9 @@ pub fn layers<'a>(r: &Resolver<'a>, at: TypeAt<'a>, is_choice: bool) -> Result<V
 }
 
 /// Records the constraints of a SEQUENCE, a SET, a CHOICE or an ENUMERATED.
-pub fn note_constraints<'a>(r: &mut Resolver<'a>, at: TypeAt<'a>) -> Result<(), Stop> {
+pub fn note_constraints<'a>(r: &mut Resolver<'a>, at: TypeAt<'a>) -> Result<(), Stop>
+    ensures { IsUnchanged r.old r.new }
+{
     let mut rest = at.notation;
     loop {
         rest = match rest {
@@ -180,7 +184,9 @@ fn note_each<'a>(
     r: &mut Resolver<'a>,
     module: usize,
     constraints: &'a [Vec<Token<'a>>],
-) -> Result<(), Stop> {
+) -> Result<(), Stop>
+    ensures { IsUnchanged r.old r.new }
+{
     for constraint in constraints {
         let tokens = constraint.as_slice();
         note(r, first_place(module, tokens), loosening_of(tokens))?;
@@ -258,7 +264,9 @@ fn check_names(parts: &[Part<'_>]) -> Result<(), Problem> {
 fn alternatives_of<'a>(
     r: &Resolver<'a>,
     components: Components<'a>,
-) -> Result<Alternatives<'a>, Stop> {
+) -> Result<Alternatives<'a>, Stop>
+    ensures { IfOk result (λ choice. choice.alternatives.items ≡ map alternative_of components.entry.parts.items) }
+{
     let Components { parts, extension } = components;
     let mut alternatives = Vec::new(r.alloc);
     for part in parts {
@@ -281,14 +289,16 @@ pub fn body_of<'a>(
     place: Place,
     word: Token<'a>,
     components: Components<'a>,
-) -> Result<Body<'a>, Stop> {
+) -> Result<Body<'a>, Stop>
+    ensures { IfOk result (HasParts word.entry components.entry.parts.items) }
+{
     check_names(components.parts.as_slice())?;
-    if is(word, b"SEQUENCE") {
+    if is_word(word, b"SEQUENCE") {
         check_tags(r, components.parts.as_slice(), Distinction::InOrder)?;
         return Ok(Body::Sequence(components));
     }
     check_tags(r, components.parts.as_slice(), Distinction::InAnyOrder)?;
-    if is(word, b"SET") {
+    if is_word(word, b"SET") {
         return Ok(Body::Set(components));
     }
     if components.parts.is_empty() {

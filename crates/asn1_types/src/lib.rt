@@ -10,6 +10,10 @@
 //! - the numbers of the parts in one pair of braces (`bodies::numbers_of`): whether these are tagged automatically, and the number of each. The parts
 //!   of COMPONENTS OF get numbers too, but their own tags don't count;
 //! - one part (`bodies::finished`): its name, whether it may be absent, and its notation under the automatic tag of its number;
+//! - which definitions are untagged (`tags_of_types::set_of_body`): a CHOICE without a tag around it, and a name of an untagged notation. It is of
+//!   definitions that are there, so more definitions change none of it;
+//! - the body of a SEQUENCE, a SET or a CHOICE (`bodies::body_of`): it is of its word, and has all its parts in their order;
+//! - what a definition is added as (`resolver::add_definition`);
 //! - that the module of an import is the one after FROM.
 //!
 //! Only tested are: that these are called for each type and each part; the number of a tag, and whether a name is that of an untagged CHOICE; what

@@ -1,12 +1,12 @@
 //! The types and values of modules.
+ghost use Rattle.asn1_types.specs.Context.{IsUnchanged};
 
 use crate::constants::constants_of;
-use crate::cores::TypeAt;
 use crate::model::{KnownType, Resolved};
 use crate::plain::at;
 use crate::problem::{ProblemKind, Stop, problem_of_two};
-use crate::resolver::{Resolver, State, new_resolver, state_of};
-use crate::scope::{AssignmentPlace, Scope, assigned_name, assignment_index, type_assigned};
+use crate::resolver::{Resolver, new_resolver};
+use crate::scope::{AssignmentPlace, Scope, assigned_name, assignment_index};
 use crate::types::{MAX_DEPTH, assign};
 use asn1_syntax::Token;
 use asn1_syntax::tree::{Assignment, Module};
@@ -18,7 +18,9 @@ fn check_name<'a>(
     module: &'a Module<'a>,
     place: AssignmentPlace,
     name: Token<'a>,
-) -> Result<(), Stop> {
+) -> Result<(), Stop>
+    ensures { IsUnchanged r.old r.new }
+{
     let Some(first) = assignment_index(module, name.text) else {
         return Ok(());
     };
@@ -35,7 +37,7 @@ fn check_name<'a>(
     Ok(())
 }
 
-// Resolves an assignment, if it isn't yet.
+// Resolves an assignment of a type, if it isn't yet.
 fn resolve_assignment<'a>(
     r: &mut Resolver<'a>,
     module: &'a Module<'a>,
@@ -43,17 +45,7 @@ fn resolve_assignment<'a>(
     assignment: &'a Assignment<'a>,
 ) -> Result<(), Stop> {
     check_name(r, module, place, assigned_name(assignment))?;
-    let Some(notation) = type_assigned(assignment) else {
-        return Ok(());
-    };
-    if !matches!(state_of(r, place), State::Unresolved) {
-        return Ok(());
-    }
-    let assigned = TypeAt {
-        module: place.module,
-        notation,
-    };
-    assign(r, place, assigned, MAX_DEPTH)
+    assign(r, place, MAX_DEPTH)
 }
 
 // Resolves the assignments of a module.

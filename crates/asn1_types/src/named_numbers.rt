@@ -1,4 +1,5 @@
 //! The names in the braces of an INTEGER or a BIT STRING (X.680, 19.5 and 22.3).
+ghost use Rattle.asn1_types.specs.Context.{IsUnchanged};
 
 use crate::model::{NamedNumber, NamedNumbers, Place};
 use crate::plain::at;
@@ -45,7 +46,9 @@ pub fn names_in<'a>(
     r: &mut Resolver<'a>,
     module: usize,
     braces: &'a [Token<'a>],
-) -> Result<Option<usize>, Stop> {
+) -> Result<Option<usize>, Stop>
+    ensures { IsUnchanged r.old r.new }
+{
     let [first, ..] = braces else {
         return Ok(None);
     };

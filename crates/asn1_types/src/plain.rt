@@ -165,7 +165,7 @@ pub fn tagged<'a>(
 ) -> Result<Notation, Stop>
     ensures { IfOk result (IsTaggedBy (environment_of r.now.scope.modules.now «module») r.now.scope.known.now r.now.tag_sets.items tag.now inner) }
 {
-    let layer = layer(r, module, tag, is_untagged(r, &inner))?;
+    let layer = layer(r, module, tag, is_untagged(r, &inner)?)?;
     let content = Box::new(r.alloc, inner)?;
     Ok(Notation::Tagged(layer, content))
 }
@@ -178,7 +178,7 @@ pub fn automatically_tagged(
 ) -> Result<Notation, Stop>
     ensures { IfOk result (IsTaggedAutomaticallyBy r.now.scope.known.now r.now.tag_sets.items number inner) }
 {
-    let layer = automatic_layer(number as u64, is_untagged(r, &inner));
+    let layer = automatic_layer(number as u64, is_untagged(r, &inner)?);
     let content = Box::new(r.alloc, inner)?;
     Ok(Notation::Tagged(layer, content))
 }

@@ -1,5 +1,6 @@
 //! What is known while the types of modules are resolved.
-ghost use Rattle.std.specs.Prelude.{◌≡◌};
+ghost use Rattle.std.specs.Prelude.{◌≡◌, [], IfOk, OnErr, OnOk};
+ghost use Rattle.asn1_types.specs.Context.{IsAdded, IsUnchanged, context_of};
 ghost use Rattle.asn1_types.specs.Tags.{environment_of};
 
 use crate::model::{Body, Definition, Loosening, Looser, NamedNumbers, Place, TagLayer};
@@ -67,7 +68,11 @@ fn unresolved(alloc: Global, module: &Module<'_>) -> Result<Vec<State>, AllocErr
 }
 
 /// What is known before any type is resolved.
-pub fn new_resolver<'a>(alloc: Global, scope: Scope<'a>) -> Result<Resolver<'a>, Stop> {
+pub fn new_resolver<'a>(alloc: Global, scope: Scope<'a>) -> Result<Resolver<'a>, Stop>
+    ensures scope { IfOk result (λ r. r.scope ≡ scope.entry) }
+    ensures definitions { IfOk result (λ r. r.definitions.items ≡ []) }
+    ensures sets { IfOk result (λ r. r.tag_sets.items ≡ []) }
+{
     let mut states = Vec::new(alloc);
     for module in scope.modules {
         let row = unresolved(alloc, module)?;
@@ -103,7 +108,9 @@ pub fn state_of(r: &Resolver<'_>, place: AssignmentPlace) -> State {
 }
 
 /// Records how far the assignment at a place is resolved.
-pub fn set_state(r: &mut Resolver<'_>, place: AssignmentPlace, state: State) {
+pub fn set_state(r: &mut Resolver<'_>, place: AssignmentPlace, state: State)
+    ensures { IsUnchanged r.old r.new }
+{
     if let Some(row) = r.states.get_mut(place.module)
         && let Some(slot) = row.get_mut(place.assignment)
     {
@@ -122,7 +129,9 @@ pub fn environment(r: &Resolver<'_>, module: usize) -> TagDefault
 }
 
 /// Records that a notation accepts more than a module says.
-pub fn note(r: &mut Resolver<'_>, place: Place, what: Loosening) -> Result<(), Stop> {
+pub fn note(r: &mut Resolver<'_>, place: Place, what: Loosening) -> Result<(), Stop>
+    ensures { IsUnchanged r.old r.new }
+{
     r.work.looser.push(Looser { place, what })?;
     Ok(())
 }
@@ -133,7 +142,12 @@ pub fn begin<'a>(
     place: AssignmentPlace,
     name: &'a [u8],
     parameters: &'a [Token<'a>],
-) -> Result<Work<'a>, Stop> {
+) -> Result<Work<'a>, Stop>
+    ensures context { context_of r.new ≡ context_of r.old }
+    ensures begun { OnOk result (r.new.work.assignment ≡ place.assignment) }
+    ensures before { IfOk result (λ before. before.assignment ≡ r.old.work.assignment) }
+    ensures failed { OnErr result (r.new.work.assignment ≡ r.old.work.assignment) }
+{
     let mut path = Vec::new(r.alloc);
     path.push(name)?;
     let is_exported = match r.scope.modules.get(place.module) {
@@ -160,7 +174,9 @@ fn copied<'a>(alloc: Global, names: &[&'a [u8]]) -> Result<Vec<&'a [u8]>, Stop> 
 }
 
 /// Takes what was recorded by `note`.
-pub fn take_looser(r: &mut Resolver<'_>) -> Vec<Looser> {
+pub fn take_looser(r: &mut Resolver<'_>) -> Vec<Looser>
+    ensures { IsUnchanged r.old r.new }
+{
     std::mem::replace(&mut r.work.looser, Vec::new(r.alloc))
 }
 
@@ -171,7 +187,12 @@ pub fn add_definition<'a>(
     tags: Vec<TagLayer>,
     body: Body<'a>,
     looser: Vec<Looser>,
-) -> Result<usize, Stop> {
+) -> Result<usize, Stop>
+    ensures added { IfOk result (λ index. IsAdded (context_of r.old) (context_of r.new) index place r.old.work.assignment
+        tags.items body.entry) }
+    ensures failed { OnErr result (context_of r.new ≡ context_of r.old) }
+    ensures assignment { r.new.work.assignment ≡ r.old.work.assignment }
+{
     let path = copied(r.alloc, r.work.path.as_slice())?;
     let set = set_of_body(r, tags.as_slice(), &body)?;
     let index = r.definitions.len();
@@ -185,7 +206,8 @@ pub fn add_definition<'a>(
         body,
         looser,
     };
-    r.definitions.push(definition)?;
+    r.definitions.reserve(1)?;
     r.tag_sets.push(set)?;
+    r.definitions.push(definition)?;
     Ok(index)
 }

@@ -1,5 +1,6 @@
 //! What a name means in a module (X.680, 13.10 to 13.17).
-ghost use Rattle.std.specs.Prelude.{◌≡◌, IfSome};
+ghost use Rattle.std.specs.Prelude.{◌≡◌, IfSome, MatchOption, None, Some, slice_get};
+ghost use Rattle.asn1_types.specs.Notations.{assigned_by, assignment_there};
 
 use crate::model::KnownType;
 use crate::problem::{Problem, ProblemKind, problem_at};
@@ -46,11 +47,12 @@ pub fn assigned_name<'a>(assignment: &Assignment<'a>) -> Token<'a> {
 }
 
 /// The type that an assignment assigns, with parameters or without.
-pub fn type_assigned<'a>(assignment: &'a Assignment<'a>) -> Option<&'a TypeNotation<'a>> {
+pub fn type_assigned<'a>(assignment: &'a Assignment<'a>) -> Option<&'a TypeNotation<'a>>
+    ensures { IfSome result (λ t. assigned_by assignment.now ≡ Some t.now) }
+{
     match assignment {
-        Assignment::Type(_, notation) | Assignment::ParameterizedType(_, _, notation) => {
-            Some(notation)
-        }
+        Assignment::Type(_, notation) => Some(notation),
+        Assignment::ParameterizedType(_, _, notation) => Some(notation),
         _ => None,
     }
 }
@@ -75,7 +77,9 @@ pub fn assignment_index(module: &Module<'_>, name: &[u8]) -> Option<usize> {
 pub fn assignment_at<'a>(
     modules: &'a [Module<'a>],
     place: AssignmentPlace,
-) -> Option<&'a Assignment<'a>> {
+) -> Option<&'a Assignment<'a>>
+    ensures { IfSome result (λ x. assignment_there (slice_get modules.now place.module) place.assignment ≡ Some x.now) }
+{
     let module = modules.get(place.module)?;
     module.assignments.get(place.assignment)
 }

@@ -1,6 +1,6 @@
 //! The tags that the encodings of types begin with, and parts that no tag distinguishes (X.680, 24.5, 26.3 and 28.3).
-ghost use Rattle.std.specs.Prelude.{◌≡◌, slice_get};
-ghost use Rattle.asn1_types.specs.Untagged.{IsUntaggedAs, is_untagged_known, is_untagged_set};
+ghost use Rattle.std.specs.Prelude.{◌≡◌, IfOk, false, slice_get, true};
+ghost use Rattle.asn1_types.specs.Untagged.{IsUntaggedAs, IsUntaggedWithin, is_untagged_known, is_untagged_set};
 
 use crate::model::{
     Alternative, Body, Notation, Part, Place, Presence, Tag, TagClass, TagLayer, TextKind,
@@ -70,7 +70,9 @@ fn own_tag(notation: &Notation) -> Option<Tag> {
 }
 
 // A set of one tag.
-fn one(alloc: Global, tag: Tag) -> Result<TagSet, Stop> {
+fn one(alloc: Global, tag: Tag) -> Result<TagSet, Stop>
+    ensures { IfOk result (λ set. set.is_untagged ≡ false) }
+{
     let mut tags = Vec::new(alloc);
     tags.push(tag)?;
     Ok(TagSet {
@@ -98,68 +100,99 @@ fn push_tags(tags: &mut Vec<Tag>, more: &[Tag]) -> Result<(), Stop> {
 }
 
 // A set of these tags.
-fn set_from(alloc: Global, from: &[Tag], is_any: bool, is_untagged: bool) -> Result<TagSet, Stop> {
+fn set_from(alloc: Global, from: &[Tag], is_any: bool) -> Result<TagSet, Stop> {
     let mut tags = Vec::new(alloc);
     push_tags(&mut tags, from)?;
     Ok(TagSet {
         tags,
         is_any,
-        is_untagged,
+        is_untagged: false,
     })
 }
 
-/// The tags that encodings of a notation begin with.
-pub fn set_of(r: &Resolver<'_>, notation: &Notation) -> Result<TagSet, Stop> {
+// The tags that encodings of a notation begin with, whether it is untagged or not.
+fn tags_of(r: &Resolver<'_>, notation: &Notation) -> Result<TagSet, Stop> {
     if let Some(tag) = own_tag(notation) {
         return one(r.alloc, tag);
     }
     match notation {
         Notation::Defined(index) => match r.tag_sets.get(*index) {
-            Some(set) => set_from(r.alloc, set.tags.as_slice(), set.is_any, set.is_untagged),
-            None => Ok(any(r.alloc)),
+            Some(set) => set_from(r.alloc, set.tags.as_slice(), set.is_any),
+            None => Err(nothing_there()),
         },
         Notation::Imported(index) => match r.scope.known.get(*index) {
-            Some(known) => set_from(r.alloc, known.tags, false, known.is_untagged),
-            None => Ok(any(r.alloc)),
+            Some(known) => set_from(r.alloc, known.tags, false),
+            None => Err(nothing_there()),
         },
         _ => Ok(any(r.alloc)),
     }
 }
 
+/// The tags that encodings of a notation begin with.
+pub fn set_of(r: &Resolver<'_>, notation: &Notation) -> Result<TagSet, Stop>
+    ensures { IfOk result (λ set. IsUntaggedAs r.now.scope.known.now r.now.tag_sets.items notation.now set.is_untagged) }
+{
+    let is_untagged = is_untagged(r, notation)?;
+    let set = tags_of(r, notation)?;
+    Ok(TagSet { is_untagged, ..set })
+}
+
+// The problem of a notation that names no definition.
+fn nothing_there() -> Stop {
+    Stop::Rejected(Problem {
+        place: Place {
+            module: 0,
+            offset: 0,
+        },
+        kind: ProblemKind::RejectedType,
+        other: None,
+    })
+}
+
 // Whether a definition is of an untagged CHOICE or an open type.
-fn is_untagged_definition(r: &Resolver<'_>, index: usize) -> bool
+fn is_untagged_definition(r: &Resolver<'_>, index: usize) -> Option<bool>
     ensures { result ≡ is_untagged_set (slice_get r.now.tag_sets.items index) }
 {
     match r.tag_sets.get(index) {
-        Some(set) => set.is_untagged,
-        None => true,
+        Some(set) => Some(set.is_untagged),
+        None => None,
     }
 }
 
 // Whether a type of another crate is an untagged CHOICE.
-fn is_untagged_known(r: &Resolver<'_>, index: usize) -> bool
+fn is_untagged_known(r: &Resolver<'_>, index: usize) -> Option<bool>
     ensures { result ≡ is_untagged_known (slice_get r.now.scope.known.now index) }
 {
     match r.scope.known.get(index) {
-        Some(known) => known.is_untagged,
-        None => true,
+        Some(known) => Some(known.is_untagged),
+        None => None,
     }
 }
 
 /// Whether a notation is of an untagged CHOICE or an open type (X.680, 30.6 c).
-pub fn is_untagged(r: &Resolver<'_>, notation: &Notation) -> bool
-    ensures { IsUntaggedAs r.now.scope.known.now r.now.tag_sets.items notation.now result }
+///
+/// One that names no definition and no type of another crate is rejected.
+pub fn is_untagged(r: &Resolver<'_>, notation: &Notation) -> Result<bool, Stop>
+    ensures { IfOk result (IsUntaggedAs r.now.scope.known.now r.now.tag_sets.items notation.now) }
 {
     match notation {
-        Notation::Any => true,
-        Notation::Defined(index) => is_untagged_definition(r, *index),
-        Notation::Imported(index) => is_untagged_known(r, *index),
-        _ => false,
+        Notation::Any => Ok(true),
+        Notation::Defined(index) => match is_untagged_definition(r, *index) {
+            Some(is_untagged) => Ok(is_untagged),
+            None => Err(nothing_there()),
+        },
+        Notation::Imported(index) => match is_untagged_known(r, *index) {
+            Some(is_untagged) => Ok(is_untagged),
+            None => Err(nothing_there()),
+        },
+        _ => Ok(false),
     }
 }
 
 // The tags of all alternatives.
-fn set_of_alternatives(r: &Resolver<'_>, alternatives: &[Alternative<'_>]) -> Result<TagSet, Stop> {
+fn set_of_alternatives(r: &Resolver<'_>, alternatives: &[Alternative<'_>]) -> Result<TagSet, Stop>
+    ensures { IfOk result (λ set. set.is_untagged ≡ true) }
+{
     let mut all = TagSet {
         tags: Vec::new(r.alloc),
         is_any: false,
@@ -174,7 +207,9 @@ fn set_of_alternatives(r: &Resolver<'_>, alternatives: &[Alternative<'_>]) -> Re
 }
 
 /// The tags that encodings of a definition begin with, of the tags around it and its body.
-pub fn set_of_body(r: &Resolver<'_>, layers: &[TagLayer], body: &Body<'_>) -> Result<TagSet, Stop> {
+pub fn set_of_body(r: &Resolver<'_>, layers: &[TagLayer], body: &Body<'_>) -> Result<TagSet, Stop>
+    ensures { IfOk result (λ set. IsUntaggedWithin r.now.scope.known.now r.now.tag_sets.items layers.now body.now set.is_untagged) }
+{
     if let [outermost, ..] = layers {
         return one(r.alloc, tag_of(*outermost));
     }

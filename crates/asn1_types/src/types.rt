@@ -1,4 +1,8 @@
 //! Types, of whatever depth.
+ghost use Rattle.std.specs.Prelude.{◌≡◌};
+ghost use Rattle.asn1_types.specs.Context.{IsUnchanged};
+ghost use Rattle.asn1_types.specs.Definitions.{Continues, is_choice};
+ghost use Rattle.asn1_types.specs.Notations.{number_of_part};
 
 use crate::bodies::{body_of, extension_of, finished, layers, note_constraints, numbers_of};
 use crate::builtins::{Builtin, builtin_of};
@@ -13,7 +17,9 @@ use crate::open_types::open_notation;
 use crate::plain::{at, builtin_notation, constrained, list_of, recursive, tagged};
 use crate::problem::{Problem, ProblemKind, Stop, problem_at};
 use crate::resolver::{Resolver, State, add_definition, begin, set_state, state_of, take_looser};
-use crate::scope::{AssignmentPlace, Meaning, assigned_name, assignment_at, parameters_of};
+use crate::scope::{
+    AssignmentPlace, Meaning, assigned_name, assignment_at, parameters_of, type_assigned,
+};
 use crate::tokens::is;
 use asn1_syntax::Token;
 use asn1_syntax::tree::{Component, Part as TreePart, PlainType, TypeNotation};
@@ -39,7 +45,11 @@ pub fn notation<'a>(r: &mut Resolver<'a>, at: TypeAt<'a>, depth: usize) -> Resul
     match at.notation {
         TypeNotation::Plain(plain) => plain_notation(r, at, plain, depth - 1),
         TypeNotation::Tagged(tag, inner) => {
-            let inner = notation(r, inside(at, inner), depth - 1)?;
+            let under = TypeAt {
+                module: at.module,
+                notation: inner,
+            };
+            let inner = notation(r, under, depth - 1)?;
             tagged(r, at.module, tag, inner)
         }
         TypeNotation::Selected(name, inner) => {
@@ -48,7 +58,11 @@ pub fn notation<'a>(r: &mut Resolver<'a>, at: TypeAt<'a>, depth: usize) -> Resul
         }
         TypeNotation::ListOf(head, inner) => {
             r.work.path.push(b"item")?;
-            let element = notation(r, inside(at, inner), depth - 1)?;
+            let under = TypeAt {
+                module: at.module,
+                notation: inner,
+            };
+            let element = notation(r, under, depth - 1)?;
             r.work.path.pop();
             list_of(r, at.module, head.word, &head.size, element)
         }
@@ -57,8 +71,12 @@ pub fn notation<'a>(r: &mut Resolver<'a>, at: TypeAt<'a>, depth: usize) -> Resul
             Ok(Notation::Defined(index))
         }
         TypeNotation::Constrained(inner, constraints) => {
-            let unbounded = notation(r, inside(at, inner), depth - 1)?;
-            constrained(r, inside(at, inner), unbounded, constraints.as_slice())
+            let under = TypeAt {
+                module: at.module,
+                notation: inner,
+            };
+            let unbounded = notation(r, under, depth - 1)?;
+            constrained(r, under, unbounded, constraints.as_slice())
         }
     }
 }
@@ -134,7 +152,9 @@ fn plain_notation<'a>(
 }
 
 // An ENUMERATED inside another type, as a definition.
-fn define_enumeration<'a>(r: &mut Resolver<'a>, at: TypeAt<'a>) -> Result<usize, Stop> {
+fn define_enumeration<'a>(r: &mut Resolver<'a>, at: TypeAt<'a>) -> Result<usize, Stop>
+    ensures { Continues r.old r.new }
+{
     let items = enumeration(r.alloc, r.scope, at.module, braces(at.notation))?;
     let tags = Vec::new(r.alloc);
     let looser = Vec::new(r.alloc);
@@ -166,9 +186,7 @@ fn reference<'a>(
     depth: usize,
 ) -> Result<Notation, Stop> {
     let assigned = type_of(r, place_of(user), place)?;
-    if matches!(state_of(r, place), State::Unresolved) {
-        assign(r, place, assigned, depth)?;
-    }
+    assign(r, place, depth)?;
     match state_of(r, place) {
         State::Defined(index) => Ok(Notation::Defined(index)),
         State::Alias(index) => {
@@ -189,31 +207,50 @@ fn reference<'a>(
     }
 }
 
-// Resolves the assignment of a type.
+// Resolves the assignment of a type, if it isn't yet.
 #[cycle(types)]
-pub fn assign<'a>(
-    r: &mut Resolver<'a>,
-    place: AssignmentPlace,
-    assigned: TypeAt<'a>,
-    depth: usize,
-) -> Result<(), Stop> {
+pub fn assign<'a>(r: &mut Resolver<'a>, place: AssignmentPlace, depth: usize) -> Result<(), Stop> {
     let Some(assignment) = assignment_at(r.scope.modules, place) else {
         return Ok(());
     };
+    let Some(notation) = type_assigned(assignment) else {
+        return Ok(());
+    };
+    if !matches!(state_of(r, place), State::Unresolved) {
+        return Ok(());
+    }
     let name = assigned_name(assignment);
     set_state(r, place, State::Open);
     let before = begin(r, place, name.text, parameters_of(assignment))?;
+    let assigned = TypeAt {
+        module: place.module,
+        notation,
+    };
     let outcome = definition(r, assigned, at(place.module, name), depth);
     r.work = before;
+    conclude(r, place, outcome)
+}
+
+// Records what an assignment is resolved to, or why it is rejected.
+fn conclude(
+    r: &mut Resolver<'_>,
+    place: AssignmentPlace,
+    outcome: Result<State, Stop>,
+) -> Result<(), Stop>
+    ensures { IsUnchanged r.old r.new }
+{
     match outcome {
-        Ok(state) => set_state(r, place, state),
+        Ok(state) => {
+            set_state(r, place, state);
+            Ok(())
+        }
         Err(Stop::Rejected(problem)) => {
             set_state(r, place, State::Rejected);
             r.problems.push(problem)?;
+            Ok(())
         }
-        Err(Stop::Memory) => return Err(Stop::Memory),
+        Err(Stop::Memory) => Err(Stop::Memory),
     }
-    Ok(())
 }
 
 // Whether a type that is no SEQUENCE, SET or CHOICE is declared as a type of Rust: a list, or a tag before a name of such a type.
@@ -249,12 +286,34 @@ fn definition<'a>(
         return defined(r, at, place, Body::Enumerated(items));
     }
     let notation = notation(r, at, depth)?;
+    if is_declared(r, at) {
+        return declared(r, at, place, notation);
+    }
+    alias(r, at, place, notation)
+}
+
+// Adds the definition of a type that holds one value of a notation.
+fn declared<'a>(
+    r: &mut Resolver<'a>,
+    at: TypeAt<'a>,
+    place: Place,
+    notation: Notation,
+) -> Result<State, Stop> {
     let tags = Vec::new(r.alloc);
     let looser = take_looser(r);
-    if is_declared(r, at) {
-        let index = add_definition(r, place, tags, Body::Value(notation), looser)?;
-        return Ok(State::Defined(index));
-    }
+    let index = add_definition(r, place, tags, Body::Value(notation), looser)?;
+    Ok(State::Defined(index))
+}
+
+// Adds the definition of a name for a notation.
+fn alias<'a>(
+    r: &mut Resolver<'a>,
+    at: TypeAt<'a>,
+    place: Place,
+    notation: Notation,
+) -> Result<State, Stop> {
+    let tags = Vec::new(r.alloc);
+    let looser = take_looser(r);
     let index = add_definition(r, place, tags, Body::Alias(notation), looser)?;
     Ok(State::Alias(index))
 }
@@ -274,11 +333,18 @@ fn defined<'a>(
     place: Place,
     body: Body<'a>,
 ) -> Result<State, Stop> {
-    let tags = layers(r, at, matches!(body, Body::Choice(_)))?;
+    let tags = layers(r, at, is_choice(&body))?;
     note_constraints(r, at)?;
     let looser = take_looser(r);
     let index = add_definition(r, place, tags, body, looser)?;
     Ok(State::Defined(index))
+}
+
+// Whether a body is that of a CHOICE.
+fn is_choice(body: &Body<'_>) -> bool
+    ensures { result ≡ is_choice body.now }
+{
+    matches!(body, Body::Choice(_))
 }
 
 // Adds the definition of a SEQUENCE, a SET or a CHOICE inside another type.
@@ -318,13 +384,25 @@ fn parts<'a>(
     written: &WrittenParts<'a>,
     depth: usize,
 ) -> Result<Vec<Part<'a>>, Stop> {
-    let numbers = numbers_of(r, module, written.parts.as_slice())?;
+    let sources = written.parts.as_slice();
+    let numbers = numbers_of(r, module, sources)?;
     let mut parts = Vec::new(r.alloc);
-    for (source, number) in written.parts.iter().zip(numbers.iter()) {
-        let part = part(r, *source, *number, depth)?;
+    for (index, source) in sources.iter().enumerate() {
+        let number = number_of_part(numbers.as_slice(), index);
+        let part = part(r, *source, number, depth)?;
         parts.push(part)?;
     }
     Ok(parts)
+}
+
+// The number at an index, if there is one.
+fn number_of_part(numbers: &[Option<usize>], index: usize) -> Option<usize>
+    ensures { result ≡ number_of_part numbers.now index }
+{
+    match numbers.get(index) {
+        Some(number) => *number,
+        None => None,
+    }
 }
 
 // A part, with an automatic tag if it has a number.

@@ -1,0 +1,101 @@
+-- More is resolved once a definition is added.
+use Rattle.std.proofs.Common.{◌≡◌, ◌∙◌, ◌∷◌, ◌++◌, ℕ, List, [], Result, Ok, Err, Some, sym, subst}
+use Rattle.std.specs.Global.{Vec}
+use Rattle.std.specs.List.{slice_get}
+use Rattle.std.specs.Result.{IfOk, OnErr}
+use Rattle.asn1_types.specs.declared.model.Body.{Body}
+use Rattle.asn1_types.specs.declared.model.Body.TheVariants as bodies
+use Rattle.asn1_types.specs.declared.model.Definition.{Definition}
+use Rattle.asn1_types.specs.declared.model.Enumeration.{Enumeration}
+use Rattle.asn1_types.specs.declared.model.Notation.{Notation}
+use Rattle.asn1_types.specs.declared.model.Notation.TheVariants as notations
+use Rattle.asn1_types.specs.declared.model.Place.{Place}
+use Rattle.asn1_types.specs.declared.model.TagLayer.{TagLayer}
+use Rattle.asn1_types.specs.declared.problem.Stop.{Stop}
+use Rattle.asn1_types.specs.declared.resolver.Resolver.{Resolver}
+use Rattle.asn1_types.specs.Context.{Context, IsAdded, context_of}
+use Rattle.asn1_types.specs.Definitions.{Continues, IsBodyOf, IsDefinition, alias, inside, inside_enumerated, is_choice, value, with_body}
+use Rattle.asn1_types.specs.Layers.{AreLayers}
+use Rattle.asn1_types.specs.Notations.{IsAssigned, IsBody, IsNotation, in_place}
+use Rattle.asn1_types.specs.Tags.{environment_of}
+use Rattle.asn1_types.proofs.Growing.{added_grows, continues_added, continues_at, grow_body, grow_body_of, grow_notation}
+use Rattle.asn1_types.proofs.Later.{there_at_end}
+use Rattle.asn1_syntax.specs.declared.token.Token.{Token}
+use Rattle.asn1_syntax.specs.declared.tree.Component.{Component}
+use Rattle.asn1_syntax.specs.declared.tree.Module.{Module}
+use Rattle.asn1_syntax.specs.declared.tree.TypeNotation.{TypeNotation}
+use Rattle.asn1_syntax.specs.declared.tree.TypeNotation.TheVariants as trees
+
+-- a definition is added, or memory ran out
+pub continues_outcome : {a b : Resolver} {place : Place} {assignment : ℕ} {tags : List TagLayer} {body : Body} (r : Result ℕ Stop) →
+    IfOk r (λ index. IsAdded (context_of a) (context_of b) index place assignment tags body) →
+    OnErr r (context_of b ≡ context_of a) → b.work.assignment ≡ a.work.assignment →
+    ((index : ℕ) (added : IsAdded (context_of a) (context_of b) index place assignment tags body) → IsDefinition (context_of b) added.definition) →
+    Continues a b
+continues_outcome (Ok index) added failed same is = continues_added added (is index added) same
+continues_outcome (Err e) added failed same is = continues_at failed same
+
+module _ {a b : Context} {index assignment : ℕ} {place : Place} {tags : List TagLayer} {body : Body}
+    (added : IsAdded a b index place assignment tags body) where
+  pub is_enumeration_inside : (items : Enumeration) → tags ≡ [] → body ≡ bodies.Enumerated items → IsDefinition b added.definition
+  is_enumeration_inside items none is = inside_enumerated (added.tags_are ∙ none) (added.body_is ∙ is)
+
+  module_is : (m : ℕ) → place.module ≡ m → added.definition.place.module ≡ m
+  module_is m at = subst (λ (x : Place). x.module ≡ m) (sym added.place_is) at
+
+  -- the assignment of the definition
+  is_assigned : (m : ℕ) (t : TypeNotation) → IsAssigned a.modules m assignment t → place.module ≡ m →
+      IsAssigned b.modules added.definition.place.module added.definition.assignment t
+  is_assigned m t is at =
+      let in_modules : IsAssigned b.modules m assignment t = subst (λ (x : List Module). IsAssigned x m assignment t) (sym added.modules) is in
+      let of_assignment : IsAssigned b.modules m added.definition.assignment t =
+      subst (λ (x : ℕ). IsAssigned b.modules m x t) (sym added.assignment_is) in_modules in
+      subst (λ (x : ℕ). IsAssigned b.modules x added.definition.assignment t) (sym (module_is m at)) of_assignment
+
+  notation_there : (m : ℕ) (t : TypeNotation) (n : Notation) → place.module ≡ m → IsNotation a m t n → IsNotation b added.definition.place.module t n
+  notation_there m t n at is = subst (λ (x : ℕ). IsNotation b x t n) (sym (module_is m at)) (grow_notation (added_grows added) is)
+
+  pub is_value : (m : ℕ) (t : TypeNotation) (n : Notation) → IsAssigned a.modules m assignment t → place.module ≡ m → tags ≡ [] →
+      body ≡ bodies.Value n → IsNotation a m t n → IsDefinition b added.definition
+  is_value m t n assigned at none is notation =
+      value (is_assigned m t assigned at) (added.body_is ∙ is) (added.tags_are ∙ none) (notation_there m t n at notation)
+
+  pub is_alias : (m : ℕ) (t : TypeNotation) (n : Notation) → IsAssigned a.modules m assignment t → place.module ≡ m → tags ≡ [] →
+      body ≡ bodies.Alias n → IsNotation a m t n → IsDefinition b added.definition
+  is_alias m t n assigned at none is notation =
+      alias (is_assigned m t assigned at) (added.body_is ∙ is) (added.tags_are ∙ none) (notation_there m t n at notation)
+
+  pub is_with_body : (m : ℕ) (t : TypeNotation) → IsAssigned a.modules m assignment t → place.module ≡ m →
+      AreLayers (environment_of a.modules m) (is_choice body) [] t tags → IsBodyOf a m t body → IsDefinition b added.definition
+  is_with_body m t assigned at layers is =
+      let of_modules : AreLayers (environment_of b.modules m) (is_choice body) [] t tags =
+      subst (λ (x : List Module). AreLayers (environment_of x m) (is_choice body) [] t tags) (sym added.modules) layers in
+      let of_module : AreLayers (environment_of b.modules added.definition.place.module) (is_choice body) [] t tags =
+      subst (λ (x : ℕ). AreLayers (environment_of b.modules x) (is_choice body) [] t tags) (sym (module_is m at)) of_modules in
+      let of_body : AreLayers (environment_of b.modules added.definition.place.module) (is_choice added.definition.body) [] t tags =
+      subst (λ (x : Body). AreLayers (environment_of b.modules added.definition.place.module) (is_choice x) [] t tags) (sym added.body_is) of_module in
+      let of_tags : AreLayers (environment_of b.modules added.definition.place.module) (is_choice added.definition.body) [] t added.definition.tags.items =
+      subst (λ (x : List TagLayer). AreLayers (environment_of b.modules added.definition.place.module) (is_choice added.definition.body) [] t x)
+      (sym added.tags_are) of_body in
+      let body_at : IsBodyOf b added.definition.place.module t body =
+      subst (λ (x : ℕ). IsBodyOf b x t body) (sym (module_is m at)) (grow_body_of (added_grows added) is) in
+      with_body (is_assigned m t assigned at) of_tags
+      (subst (λ (x : Body). IsBodyOf b added.definition.place.module t x) (sym added.body_is) body_at)
+
+  pub body_there : (m : ℕ) (word : Token) (parts : List (Component TypeNotation)) → IsBody a m word parts body →
+      IsBody b m word parts added.definition.body
+  body_there m word parts is = subst (λ (x : Body). IsBody b m word parts x) (sym added.body_is) (grow_body (added_grows added) is)
+
+  pub is_inside : (m : ℕ) (word : Token) (parts : List (Component TypeNotation)) → tags ≡ [] → IsBody a m word parts body →
+      IsDefinition b added.definition
+  is_inside m word parts none is = inside (added.tags_are ∙ none) (body_there m word parts is)
+
+  pub is_in_place : (m : ℕ) (word : Token) (parts : Vec (Component TypeNotation)) → tags ≡ [] → IsBody a m word parts.items body →
+      IsNotation b m (trees.Constructed word parts) (notations.Defined index)
+  is_in_place m word parts none is =
+      let at_end : slice_get (a.definitions ++ added.definition ∷ []) index ≡ Some added.definition =
+      subst (λ (i : ℕ). slice_get (a.definitions ++ added.definition ∷ []) i ≡ Some added.definition) (sym added.at)
+      (there_at_end a.definitions added.definition) in
+      let there : slice_get b.definitions index ≡ Some added.definition =
+      subst (λ (l : List Definition). slice_get l index ≡ Some added.definition) (sym added.definitions) at_end in
+      in_place parts there (added.tags_are ∙ none) (body_there m word parts.items is)
