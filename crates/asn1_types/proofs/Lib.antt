@@ -3,3 +3,4 @@ pub mod Layered
 pub mod Later
 pub mod Growing
 pub mod Adding
+pub mod Steps

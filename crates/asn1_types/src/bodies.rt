@@ -201,7 +201,8 @@ fn presence_of<'a>(
     at: TypeAt<'a>,
     notation: &Notation,
 ) -> Result<Presence<'a>, Stop>
-    ensures { IfOk result (λ presence. KeepsPresence source.entry.presence.now presence) }
+    ensures unchanged { IsUnchanged r.old r.new }
+    ensures presence { IfOk result (λ presence. KeepsPresence source.entry.presence.now presence) }
 {
     match source.presence {
         WrittenPresence::Required => Ok(Presence::Required),
@@ -235,7 +236,8 @@ pub fn finished<'a>(
     notation: Notation,
     number: Option<usize>,
 ) -> Result<Part<'a>, Stop>
-    ensures { IfOk result (IsFinished r.new.scope.known.now r.new.tag_sets.items source.entry number notation) }
+    ensures unchanged { IsUnchanged r.old r.new }
+    ensures finished { IfOk result (IsFinished r.new.scope.known.now r.new.tag_sets.items source.entry number notation) }
 {
     let presence = presence_of(r, source, written, &notation)?;
     let notation = tagged_if(r, number, notation)?;
