@@ -26,6 +26,10 @@ KEY_TYPE = ["--module", "modules/PKCS-1.asn1", "--type", "RSAPublicKey"]
 WRONG = b"3006 020105 0101FF"
 # What a program says of an input: the case's name, the words, the input, the status and what is on standard error.
 REPORTS = {
+    "asn1show": [
+        ("an element that is in no file", ["--at", "1", "-"], b"0500", 1, b"stdin: no element begins at the offset"),
+        ("a page of several files", ["--html", "-", "-"], b"0500", 2, b"asn1show: --html takes one FILE"),
+    ],
     "asn1der": [
         ("the place of an error", [], b"3006 020105 0405 41", 1, b"offset 5: Eof"),
         ("the name of one of several files", ["-", "-"], b"3006 020105 0405 41", 1, None),

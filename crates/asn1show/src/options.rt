@@ -2,7 +2,7 @@
 
 use asn1show_lines::{Extent, InputFormat, Layout, Numbers, Part, Selection, View};
 use clap::{Arg, ArgAction, ArgMatches, Command, Error};
-use program_io::{Input, VERSION};
+use program_io::VERSION;
 use std::alloc::{AllocError, Global};
 use yasna_base::mode::BERMode;
 
@@ -15,12 +15,15 @@ pub struct Options<'a> {
     pub input_format: Option<InputFormat>,
     /// What is shown of the elements, and how.
     pub view: View<'a>,
-    /// What is read.
-    pub input: Input<'a>,
     matches: ArgMatches<'a>,
 }
 
 impl<'a> Options<'a> {
+    /// The files to list, of which `-` is standard input, or None if none is named.
+    pub fn files(&self) -> Option<&[&'a str]> {
+        self.matches.get_strs("FILE")
+    }
+
     /// The files of modules that name the elements, if there are any.
     pub fn modules(&self) -> Option<&[&'a str]> {
         self.matches.get_strs("module")
@@ -192,12 +195,11 @@ fn type_arg<'a>(alloc: Global) -> Result<Arg<'a>, AllocError> {
         .requires_arg("module")
 }
 
-fn file_arg<'a>(alloc: Global) -> Arg<'a> {
-    value_arg(
-        alloc,
-        "FILE",
-        "The file to read (standard input for - or if there is none)",
-    )
+fn files_arg<'a>(alloc: Global) -> Arg<'a> {
+    Arg::new(alloc, "FILE")
+        .action(ArgAction::Append)
+        .num_args(0..)
+        .help("The files to list (- is standard input, and so is none)")
 }
 
 fn push_flag(alloc: Global, args: &mut Vec<Arg<'_>>, flag: &Flag) -> Result<(), AllocError> {
@@ -218,7 +220,7 @@ fn push_values(alloc: Global, args: &mut Vec<Arg<'_>>) -> Result<(), AllocError>
     args.push(width_arg(alloc))?;
     args.push(module_arg(alloc)?)?;
     args.push(type_arg(alloc)?)?;
-    Ok(args.push(file_arg(alloc))?)
+    Ok(args.push(files_arg(alloc))?)
 }
 
 fn all_args<'a>(alloc: Global) -> Result<Vec<Arg<'a>>, AllocError> {
@@ -326,6 +328,7 @@ fn default_width(layout: Layout) -> usize {
 fn view_of<'a>(matches: &ArgMatches<'a>) -> View<'a> {
     let layout = layout_of(matches);
     View {
+        name: "input",
         selection: selection_of(matches),
         layout,
         numbers: numbers_of(matches),
@@ -356,7 +359,6 @@ fn found<'a>(matches: ArgMatches<'a>) -> Options<'a> {
         mode: mode_of(&matches),
         input_format: format_of(&matches),
         view: view_of(&matches),
-        input: Input::named(matches.get_str("FILE")),
         matches,
     }
 }

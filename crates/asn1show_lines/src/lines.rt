@@ -138,9 +138,16 @@ fn line_of(alloc: Global, text: &str) -> LineBuffer {
     line
 }
 
+// The first line of an input, up to its format.
+fn first_line(style: Style<'_>, format: &str) -> LineBuffer {
+    let mut line = line_of(style.alloc, style.view.name);
+    line.write_str(format);
+    line
+}
+
 // The line of a block of PEM, up to its label.
-fn block_line(alloc: Global, label: &[u8]) -> LineBuffer {
-    let mut line = line_of(alloc, "input: PEM ");
+fn block_line(style: Style<'_>, label: &[u8]) -> LineBuffer {
+    let mut line = first_line(style, ": PEM ");
     write_quoted(&mut line, label);
     line
 }
@@ -155,7 +162,7 @@ fn show_block<W: Write + Drop>(
     ensures elements { OnOk result (BlockHolds (AreElements max_depth mode) block.now.bytes) }
     ensures fails { IfErr result (λ f. WalkFails IsExternal (BlockFails (NoElements max_depth mode) block.now.bytes) f) }
 {
-    let mut line = block_line(style.alloc, block.label);
+    let mut line = block_line(style, block.label);
     match &block.bytes {
         Ok(bytes) => {
             line.write_str(", ");
@@ -300,7 +307,7 @@ fn show_hex<W: Write + Drop>(
 {
     let text = text_of(input);
     let bytes = decode_hex(style.alloc, text, input.len() - text.len())?;
-    let line = line_of(style.alloc, "input: hexadecimal, ");
+    let line = first_line(style, ": hexadecimal, ");
     show_counted(out, mode, style, line, bytes.as_slice())
 }
 
@@ -319,13 +326,7 @@ fn show_format<W: Write + Drop>(
     match input_format {
         InputFormat::Pem => show_blocks(out, mode, style, input),
         InputFormat::Hex => show_hex(out, mode, style, input),
-        InputFormat::Bytes => show_counted(
-            out,
-            mode,
-            style,
-            line_of(style.alloc, "input: "),
-            input,
-        ),
+        InputFormat::Bytes => show_counted(out, mode, style, first_line(style, ": "), input),
     }
 }
 

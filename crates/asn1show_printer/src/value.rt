@@ -65,6 +65,8 @@ pub enum Layout {
 /// What is shown of elements, and how.
 #[derive(Clone, Copy)]
 pub struct View<'n> {
+    /// What the first line calls the input.
+    pub name: &'n str,
     /// What is shown.
     pub selection: Selection,
     /// How elements are laid out.

@@ -125,6 +125,7 @@ fn style_of<'n>(alloc: Global, names: &'n Names, schema: &'n Schema, mode: BERMo
         alloc,
         names,
         view: View {
+            name: "input",
             selection: Selection::Defects(mode),
             layout: Layout::Lines,
             numbers: Numbers::Hexadecimal,

@@ -142,6 +142,7 @@ rules: BER, DER
 
 fn view(schema: &Schema) -> View<'_> {
     View {
+        name: "input",
         selection: Selection::Elements(Extent {
             at: None,
             depth: 255,

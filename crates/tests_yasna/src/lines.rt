@@ -56,6 +56,7 @@ pub(crate) type Row = (&'static str, Option<InputFormat>, BERMode, Expectation);
 
 /// Each element, with 16 hexadecimal digits of a value.
 pub(crate) const ALL: View<'static> = View {
+    name: "input",
     selection: Selection::Elements(Extent {
         at: None,
         depth: 255,
