@@ -22,6 +22,7 @@ nothing_lawful = record {
       prefix_free = λ m n k b c r s p q e. absurd p;
     };
     begins = λ t. record { at = λ m n b p. absurd p };
+    single = λ m n b p. absurd p;
     exact = record {
       in_bytes = λ m n v f short. absurd f;
       holds = λ m o n v h f short. absurd f;
@@ -116,6 +117,7 @@ module _ {A : Type 0} {step : Meaning A → Meaning A} {depth : A → ℕ} (s : 
             (subst (λ ts. BeginsBy ts ((step (after_steps step n)).any_under None)) (s.tags (after_steps step n))
             ((lawful_after (suc n)).own.begins (s.tags_known (after_steps step n)))).at m n b p;
       };
+      single = λ m n b p. (lawful_after (suc n)).own.single m n b p;
       exact = record {
         in_bytes = λ m n v f short.
             let top = suc (n + depth v) in

@@ -68,6 +68,7 @@ module _ {A : Type 0} {E : A → A → Type 0} (passes : A → Bool) (alike : (v
   within_laws x = record {
     coding = within_coding x.coding;
     begins = λ t. let y = x.begins t in record { at = λ m n b p. y.at m n b (x.coding.meaning.among m n p.0 b p.1.0) };
+    single = λ m n b p. x.single m n b (x.coding.meaning.among m n p.0 b p.1.0);
     exact = within_exact x.exact;
   }
 

@@ -17,6 +17,7 @@ use Rattle.yasna_reader.specs.Decodes.{RepeatsError}
 use Rattle.yasna_reader.specs.State.{Reading, IsFresh}
 use Rattle.yasna_notation.specs.declared.choices.Either.{Either}
 use Rattle.yasna_notation.specs.declared.choices.Either.TheVariants.{First, Second}
+use Rattle.yasna_notation.specs.Elements.{either_elements}
 use Rattle.yasna_notation.specs.Laws.{defined_type_laws}
 use Rattle.yasna_notation.specs.Notation.{IsNotation}
 
@@ -39,7 +40,7 @@ module _ {A : Type 0} {tags_known : Bool} {ts : List Tag} {E : A → A → Type 
   last_laws laws e =
       let y = and_parts tags_known a e in
       let x = laws y.1 in
-      record { coding = x.coding; begins = λ _. x.begins y.0; exact = x.exact }
+      record { coding = x.coding; begins = λ _. x.begins y.0; single = x.single; exact = x.exact }
 
   -- a type, and others by other tags
   pub either_laws : {V : Type 0} {us : List Tag} {F : V → V → Type 0} {C : Grammar V} {Q : Members} {g : Encoding V} {R : Fitting V} {d : V → Type 0} {b : Bool} →
@@ -54,7 +55,8 @@ module _ {A : Type 0} {tags_known : Bool} {ts : List Tag} {E : A → A → Type 
       let x = first z.0 in
       let y = rest z.1 in
       let k = choice_with_tags (record { coding = x.coding; begins = x.begins u.0 }) (record { coding = y.coding; begins = y.begins refl }) w.0 in
-      defined_type_laws sides (record { coding = k.coding; begins = λ _. k.begins; exact = choice_exact x.exact y.exact })
+      defined_type_laws sides
+      (record { coding = k.coding; begins = λ _. k.begins; single = either_elements x.single y.single; exact = choice_exact x.exact y.exact })
 
 -- no encoding is empty, where none of either type is
 pub either_non_empty : {A V : Type 0} (f : Encoding A) (g : Encoding V) (m : BERMode) → ((v : A) → f m v ≡ [] → ⊥) → ((w : V) → g m w ≡ [] → ⊥) →

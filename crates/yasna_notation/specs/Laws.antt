@@ -23,7 +23,7 @@ use Rattle.yasna_base.specs.Digits.{IsBytes}
 use Rattle.yasna_base.specs.Element.{Primitively, Enclosed, AnyEnclosed}
 use Rattle.yasna_base.specs.Exact.{Fitting, written_fits, enclosed_fits, elements_fit, raw_fits}
 use Rattle.yasna_base.specs.Grammar.{Grammar, Members, Encoding}
-use Rattle.yasna_base.specs.Identifier.{class_number, identifier, end_tag, BeginsWithTag, begins, tag_or}
+use Rattle.yasna_base.specs.Identifier.{class_number, identifier, end_tag, AnyTag, BeginsWithTag, begins, tag_or}
 use Rattle.yasna_base.specs.Integer.{IsSigned, IsUnsigned, integer_encoding}
 use Rattle.yasna_base.specs.Null.{IsNull, null_encoding}
 use Rattle.yasna_base.specs.Octets.{IsOctets, octets_full, octets_segmentation, octets_encoding, octets_depth}
@@ -56,13 +56,16 @@ use Rattle.yasna_times.specs.Models.{utc_of, moment_of}
 use Rattle.yasna_times.specs.UtcTime.{SpellsUtcTime, utc_time_encoding, utc_time_depth}
 use Rattle.yasna_times.proofs.TimeLaws.{utc_time_keeps, generalized_time_keeps}
 use Rattle.yasna_times.proofs.Times.{general_moment}
+use Rattle.yasna_notation.specs.Elements.{AreSingleElements}
 use Rattle.yasna_notation.specs.Notation.{IsNotation, IsNotationUnderTags, NotationKeepsLaws}
 
 module _ {A : Type 0} {E : A → A → Type 0} {B : Tag → Grammar A} {S : Tag → Members} {encoding : Tag → Encoding A} {Fits : Fitting A} {Can : A → Type 0}
     (own : Tag) (laws : IsExactUnderTags E B S encoding Fits Can)
-    (begins : (t : Tag) (m : BERMode) (n : ℕ) (b : List ℕ) → S t m n b → BeginsWithTag t b) where
+    (begins : (t : Tag) (m : BERMode) (n : ℕ) (b : List ℕ) → S t m n b → BeginsWithTag t b) (single : AnyTag (λ t. AreSingleElements (S t))) where
   at : (t : Tag) → (t ≡ end_tag → ⊥) → t.tag_number < 2 ^ 64 → IsNotation true (t ∷ []) E (B t) (S t) (encoding t) Fits Can
-  at t not_end range = let x = laws t not_end range in record { coding = x.0; begins = λ _. begins_by_tag t (begins t); exact = x.1 }
+  at t not_end range =
+      let x = laws t not_end range in
+      record { coding = x.0; begins = λ _. begins_by_tag t (begins t); single = single t not_end range; exact = x.1 }
 
   -- a type that satisfies its laws under any tag satisfies them under its own, and where another tag is in place of that
   pub element_lawful : (own ≡ end_tag → ⊥) → own.tag_number < 2 ^ 64 →
@@ -169,7 +172,12 @@ application_not_end k e = let c = ap (λ (t : Tag). class_number t.tag_class) e 
 -- an element of any tag
 pub any_laws : IsNotation false [] (λ v w. raw_of v ≡ raw_of w) (λ m n v b. IsRaw m n (raw_of v) b) (Any IsRaw)
     (λ m v. raw_encoding (raw_of v).tag m (raw_of v)) (λ m n v. raw_fits m n (raw_of v)) Always
-any_laws = record { coding = along raw_of raw_coding; begins = λ e. absurd (cc); exact = exact_along raw_of raw_keeps_exact }
+any_laws = record {
+  coding = along raw_of raw_coding;
+  begins = λ e. absurd (cc);
+  single = λ m n b p. p;
+  exact = exact_along raw_of raw_keeps_exact;
+}
 
 -- nothing is required if no other tag may be there
 pub never_retagged : {P : Type 0} → false ≡ true → P
@@ -204,7 +212,7 @@ module _ {A : Type 0} {tags_known : Bool} {ts : List Tag} {E : A → A → Type 
 pub defined_type_laws : {U A : Type 0} {tags_known : Bool} {ts : List Tag} {E : A → A → Type 0} {B : Grammar A} {S : Members} {encoding : Encoding A} {Fits : Fitting A}
     {Can : A → Type 0} (f : U → A) → IsNotation tags_known ts E B S encoding Fits Can →
     IsNotation tags_known ts (λ v w. E (f v) (f w)) (λ m n v b. B m n (f v) b) S (λ m v. encoding m (f v)) (λ m n v. Fits m n (f v)) (λ v. Can (f v))
-defined_type_laws f x = record { coding = along f x.coding; begins = x.begins; exact = exact_along f x.exact }
+defined_type_laws f x = record { coding = along f x.coding; begins = x.begins; single = x.single; exact = exact_along f x.exact }
 
 pub represented_lawful : {U A : Type 0} {tags_known : Bool} {ts : List Tag} {retagged : Bool} {E : A → A → Type 0} {B : Option Tag → Grammar A}
     {S : Option Tag → Members} {encoding : Option Tag → Encoding A} {Fits : Fitting A} {Can : A → Type 0} (f : U → A) →

@@ -1,3 +1,4 @@
+pub mod Elements
 pub mod Notation
 pub mod Laws
 pub mod Making

@@ -26,6 +26,7 @@ pub use Rattle.yasna_notation.specs.Bounded.{exactly, from_to, from_zero, up_to,
 use Rattle.yasna_notation.specs.Bounded.{Within, within_lawful, passes_alike, sizes_alike, set_sizes_alike}
 use Rattle.yasna_notation.specs.Choices.{sides, either_laws, either_non_empty}
 pub use Rattle.yasna_notation.specs.Laws.{application}
+use Rattle.yasna_notation.specs.Elements.{enclosed_elements, explicit_elements, elements_joined, set_of_joined}
 use Rattle.yasna_notation.specs.Laws.{application_not_end, element_lawful, list_laws, explicit_laws, implicit_lawful, never_retagged}
 use Rattle.yasna_notation.specs.Notation.{IsNotation, NotationKeepsLaws, IsNonEmpty}
 use Rattle.yasna_notation.specs.Parts.{AreParts, all_known, part_laws, option_laws, default_laws, sequence_laws}
@@ -60,7 +61,7 @@ pub in_sequence : {A : Type 0} {tags_known : Bool} {ts : List Tag} {E : A → A 
     {Can : A → Type 0} → AreParts tags_known ts E C S encoding Fits Can →
     NotationKeepsLaws true (sequence_tag ∷ []) true E (λ u. Enclosed C (tag_or u sequence_tag)) (λ u. AnyEnclosed S (tag_or u sequence_tag))
     (λ u. enclosed_encoding encoding (tag_or u sequence_tag)) (enclosed_fits Fits) Can
-in_sequence {S = S} x = element_lawful sequence_tag (sequence_laws x) (enclosed_begins S) (not_end 16 (λ e. omega arith)) (omega arith)
+in_sequence {S = S} x = element_lawful sequence_tag (sequence_laws x) (enclosed_begins S) (enclosed_elements S x.joined) (not_end 16 (λ e. omega arith)) (omega arith)
 
 -- a SEQUENCE OF
 pub in_sequence_of : {A : Type 0} {tags_known : Bool} {ts : List Tag} {E : A → A → Type 0} {B : Grammar A} {S : Members} {encoding : Encoding A}
@@ -70,7 +71,8 @@ pub in_sequence_of : {A : Type 0} {tags_known : Bool} {ts : List Tag} {E : A →
     (λ u m (v : Vec A Global). enclosed_encoding (elements_encoding encoding) (tag_or u sequence_tag) m v.items)
     (λ m n (v : Vec A Global). enclosed_fits (elements_fit Fits) m n v.items) (λ (v : Vec A Global). AllByRecursion Can v.items)
 in_sequence_of {S = S} x =
-    element_lawful sequence_tag (list_laws x) (enclosed_begins (AnyElements S)) (not_end 16 (λ e. omega arith)) (omega arith)
+    element_lawful sequence_tag (list_laws x) (enclosed_begins (AnyElements S)) (enclosed_elements (AnyElements S) (elements_joined x.single))
+    (not_end 16 (λ e. omega arith)) (omega arith)
 
 -- a SET OF
 pub in_set_of : {A : Type 0} {tags_known : Bool} {ts : List Tag} {E : A → A → Type 0} {B : Grammar A} {S : Members} {encoding : Encoding A}
@@ -80,14 +82,15 @@ pub in_set_of : {A : Type 0} {tags_known : Bool} {ts : List Tag} {E : A → A �
     (λ u m (v : Vec A Global). sorted_set_of_encoding encoding (tag_or u set_tag) m v.items)
     (λ m n (v : Vec A Global). enclosed_fits (elements_fit Fits) m n v.items) (λ (v : Vec A Global). AllByRecursion Can v.items)
 in_set_of {S = S} x =
-    element_lawful set_tag (set_of_laws x) (enclosed_begins (AnySetOfElements S)) (not_end 17 (λ e. omega arith)) (omega arith)
+    element_lawful set_tag (set_of_laws x) (enclosed_begins (AnySetOfElements S)) (enclosed_elements (AnySetOfElements S) (set_of_joined x.single))
+    (not_end 17 (λ e. omega arith)) (omega arith)
 
 -- under [k] EXPLICIT
 pub in_explicit : {A : Type 0} {tags_known : Bool} {ts : List Tag} {E : A → A → Type 0} {B : Grammar A} {S : Members} {encoding : Encoding A} {Fits : Fitting A}
     {Can : A → Type 0} (k : ℕ) → k < 2 ^ 64 → IsNotation tags_known ts E B S encoding Fits Can →
     NotationKeepsLaws true (context k ∷ []) true E (λ u. Enclosed B (tag_or u (context k))) (λ u. AnyEnclosed S (tag_or u (context k)))
     (λ u. enclosed_encoding encoding (tag_or u (context k))) (enclosed_fits Fits) Can
-in_explicit {S = S} k range x = element_lawful (context k) (explicit_laws x) (enclosed_begins S) (context_not_end k) range
+in_explicit {S = S} k range x = element_lawful (context k) (explicit_laws x) (enclosed_begins S) (explicit_elements x.single) (context_not_end k) range
 
 -- under [k] IMPLICIT
 pub in_implicit : {A : Type 0} {tags_known : Bool} {ts : List Tag} {E : A → A → Type 0} {B : Option Tag → Grammar A} {S : Option Tag → Members}

@@ -12,6 +12,7 @@ use Rattle.yasna_base.specs.Identifier.{end_tag, AnyTag}
 use Rattle.yasna_reader.specs.ByTags.{NoMatchElsewhere}
 use Rattle.yasna_reader.specs.Decodes.{Decodes, RepeatsError}
 use Rattle.yasna_reader.specs.State.{Reading, IsFresh, untagged}
+use Rattle.yasna_notation.specs.Elements.{AreSingleElements}
 
 -- what a type means
 pub record Meaning (A : Type 0) : Type 1 where
@@ -36,11 +37,12 @@ pub record Meaning (A : Type 0) : Type 1 where
   -- which values have an encoding in a mode within a number of levels
   pub fits : Fitting A
 
--- the laws of reading and of a canonical mode, of a type that begins with one of the tags, where that is known
+-- the laws of reading and of a canonical mode, of a type each of whose encodings is one element, and begins with one of the tags where that is known
 pub record IsNotation {A : Type 0} (tags_known : Bool) (ts : List Tag) (E : A → A → Type 0) (B : Grammar A) (S : Members) (encoding : Encoding A)
     (Fits : Fitting A) (Can : A → Type 0) : Type 0 where
   pub coding : IsCoding E B S
   pub begins : tags_known ≡ true → BeginsBy ts S
+  pub single : AreSingleElements S
   pub exact : IsExact E B encoding Fits Can
 
 -- `IsNotation` under any tag but that of the end of contents: B u is the grammar where the tag u is in place of the type's own

@@ -28,14 +28,16 @@ use Rattle.yasna_reader.specs.Parse.{unless_failed}
 use Rattle.yasna_reader.specs.State.{Reading}
 use Rattle.yasna_reader.proofs.DefaultParts.{default_part_with_tags, less}
 use Rattle.yasna_reader.proofs.PartsByTags.{BeginInRange, end_in_range, part_in_range, left_out_in_range}
+use Rattle.yasna_notation.specs.Elements.{AreJoined, nothing_joined, part_joined, option_joined}
 use Rattle.yasna_notation.specs.Notation.{IsNotation}
 
--- contents that satisfy the laws of reading and of a canonical mode, and begin by the tags, where that is known
+-- contents that satisfy the laws of reading and of a canonical mode, are elements, and begin by the tags where that is known
 pub record AreParts {A : Type 0} (tags_known : Bool) (ts : List Tag) (E : A → A → Type 0) (C : Grammar A) (S : Members) (encoding : Encoding A)
     (Fits : Fitting A) (Can : A → Type 0) : Type 0 where
   pub coding : IsContentsCoding E C S
   pub begins : tags_known ≡ true → ContentsBeginBy ts S
   pub in_range : BeginInRange S
+  pub joined : AreJoined S
   pub exact : IsExact E C encoding Fits Can
 
 -- what reading them up to their end does: the sticky error is what it returns, if there is one
@@ -70,6 +72,7 @@ no_parts = record {
   coding = parts_contents no_part;
   begins = λ _. nothing_by_tags;
   in_range = record { at = λ m n c s u i q b. end_in_range s u i (subst (λ z. BeginsWithTag u (z ++ s)) q b) };
+  joined = nothing_joined;
   exact = no_part_exact;
 }
 
@@ -86,6 +89,7 @@ module _ {A V : Type 0} {tags_known others : Bool} {ts us : List Tag} {E : A →
         coding = part_before x.coding y.coding;
         begins = λ t. part_by_tags Q (x.begins t);
         in_range = part_in_range Q x.coding;
+        joined = part_joined x.single y.joined;
         exact = part_exact x.exact y.exact;
       }
 
@@ -105,6 +109,7 @@ module _ {A V : Type 0} {tags_known others : Bool} {ts us : List Tag} {E : A →
         coding = option_before x.coding (unambiguous_before begins after t.none_shared) y.coding;
         begins = λ _. left_out_by_tags begins after;
         in_range = left_out_in_range x.coding y.in_range;
+        joined = option_joined x.single y.joined;
         exact = part_exact (option_exact x.exact) y.exact;
       }
 
@@ -129,6 +134,7 @@ module _ {A V : Type 0} {tags_known others : Bool} {ts us : List Tag} {E : A →
         coding = k.coding;
         begins = λ _. k.begins;
         in_range = record { at = λ m n c s u i b. range.at m n c s u i (less Q is x.coding m n c b) };
+        joined = λ m n c b. option_joined x.single y.joined m n c (less Q is x.coding m n c b);
         exact = part_exact (default_exact is (default_alike is default detects x.coding.meaning.equal) x.exact) y.exact;
       }
 
@@ -161,6 +167,7 @@ last_part_laws {A} x =
       coding = contents_along paired (option_before x.coding (unambiguous_before_nothing x.coding) (parts_contents no_part));
       begins = λ t. left_out_by_tags (x.begins t) nothing_by_tags;
       in_range = left_out_in_range x.coding no_parts.in_range;
+      joined = option_joined x.single nothing_joined;
       exact = exact_along paired (part_exact (option_exact x.exact) no_part_exact);
     }
 

@@ -5,6 +5,7 @@ ghost use Rattle.yasna_base.specs.Element.{Enclosed, AnyEnclosed};
 ghost use Rattle.yasna_base.specs.Exact.{enclosed_fits};
 ghost use Rattle.yasna_base.specs.Identifier.{tag_or};
 ghost use Rattle.yasna_base.proofs.ExplicitTags.{enclosed_begins};
+ghost use Rattle.yasna_notation.specs.Elements.{explicit_elements};
 ghost use Rattle.yasna_notation.specs.Laws.{element_lawful, explicit_laws, element_non_empty};
 
 use crate::notation::Notation;
@@ -72,7 +73,7 @@ impl<T: TagName, N: Notation> Notation for Explicit<T, N> {
         )
     }
 
-    ghost lawful = { λ a. element_lawful T.tag (explicit_laws (N.lawful a).own) (enclosed_begins (N.means.any_under None)) T.not_end T.in_range };
+    ghost lawful = { λ a. element_lawful T.tag (explicit_laws (N.lawful a).own) (enclosed_begins (N.means.any_under None)) (explicit_elements (N.lawful a).own.single) T.not_end T.in_range };
 
     ghost non_empty = { λ u m v. element_non_empty _ _ _ _ };
 }

@@ -16,6 +16,7 @@ ghost use Rattle.yasna_base.specs.Oid.{AreComponents, IsEncodableOid, oid_tag, o
 ghost use Rattle.yasna_base.proofs.Coding.{primitively_begins};
 ghost use Rattle.yasna_base.proofs.Identifier.{not_end};
 ghost use Rattle.yasna_bytes.specs.Contents.{big_integer_in};
+ghost use Rattle.yasna_notation.specs.Elements.{primitive_elements};
 ghost use Rattle.yasna_notation.specs.Laws.{element_lawful, seen_laws, boolean_laws, null_laws, signed_laws, unsigned_laws, oid_laws, big_integer_laws, element_non_empty};
 
 use crate::notation::Notation;
@@ -71,7 +72,7 @@ impl Notation for bool {
         primitive_len(under.unwrap_or(TAG_BOOLEAN), 1)
     }
 
-    ghost lawful = { λ _. element_lawful boolean_tag boolean_laws (primitively_begins IsBoolean) (not_end 1 (λ e. omega arith)) (omega arith) };
+    ghost lawful = { λ _. element_lawful boolean_tag boolean_laws (primitively_begins IsBoolean) (primitive_elements IsBoolean) (not_end 1 (λ e. omega arith)) (omega arith) };
 
     ghost non_empty = { λ u m v. element_non_empty _ _ _ _ };
 }
@@ -120,7 +121,7 @@ impl Notation for () {
         primitive_len(under.unwrap_or(TAG_NULL), 0)
     }
 
-    ghost lawful = { λ _. element_lawful null_tag null_laws (primitively_begins IsNull) (not_end 5 (λ e. omega arith)) (omega arith) };
+    ghost lawful = { λ _. element_lawful null_tag null_laws (primitively_begins IsNull) (primitive_elements IsNull) (not_end 5 (λ e. omega arith)) (omega arith) };
 
     ghost non_empty = { λ u m v. element_non_empty _ _ _ _ };
 }
@@ -169,7 +170,7 @@ impl Notation for i64 {
         i64_len(under.unwrap_or(TAG_INTEGER), *value)
     }
 
-    ghost lawful = { λ _. element_lawful integer_tag (signed_laws w64) (primitively_begins (IsSigned w64)) (not_end 2 (λ e. omega arith)) (omega arith) };
+    ghost lawful = { λ _. element_lawful integer_tag (signed_laws w64) (primitively_begins (IsSigned w64)) (primitive_elements (IsSigned w64)) (not_end 2 (λ e. omega arith)) (omega arith) };
 
     ghost non_empty = { λ u m v. element_non_empty _ _ _ _ };
 }
@@ -218,7 +219,7 @@ impl Notation for i32 {
         i64_len(under.unwrap_or(TAG_INTEGER), i64::from(*value))
     }
 
-    ghost lawful = { λ _. element_lawful integer_tag (signed_laws w32) (primitively_begins (IsSigned w32)) (not_end 2 (λ e. omega arith)) (omega arith) };
+    ghost lawful = { λ _. element_lawful integer_tag (signed_laws w32) (primitively_begins (IsSigned w32)) (primitive_elements (IsSigned w32)) (not_end 2 (λ e. omega arith)) (omega arith) };
 
     ghost non_empty = { λ u m v. element_non_empty _ _ _ _ };
 }
@@ -267,7 +268,7 @@ impl Notation for u64 {
         u64_len(under.unwrap_or(TAG_INTEGER), *value)
     }
 
-    ghost lawful = { λ _. element_lawful integer_tag (unsigned_laws 64) (primitively_begins (IsUnsigned 64)) (not_end 2 (λ e. omega arith)) (omega arith) };
+    ghost lawful = { λ _. element_lawful integer_tag (unsigned_laws 64) (primitively_begins (IsUnsigned 64)) (primitive_elements (IsUnsigned 64)) (not_end 2 (λ e. omega arith)) (omega arith) };
 
     ghost non_empty = { λ u m v. element_non_empty _ _ _ _ };
 }
@@ -316,7 +317,7 @@ impl Notation for u32 {
         i64_len(under.unwrap_or(TAG_INTEGER), i64::from(*value))
     }
 
-    ghost lawful = { λ _. element_lawful integer_tag (unsigned_laws 32) (primitively_begins (IsUnsigned 32)) (not_end 2 (λ e. omega arith)) (omega arith) };
+    ghost lawful = { λ _. element_lawful integer_tag (unsigned_laws 32) (primitively_begins (IsUnsigned 32)) (primitive_elements (IsUnsigned 32)) (not_end 2 (λ e. omega arith)) (omega arith) };
 
     ghost non_empty = { λ u m v. element_non_empty _ _ _ _ };
 }
@@ -368,7 +369,7 @@ impl Notation for Enumerated {
         i64_len(under.unwrap_or(TAG_ENUM), *value)
     }
 
-    ghost lawful = { λ _. element_lawful enumerated_tag (signed_laws w64) (primitively_begins (IsSigned w64)) (not_end 10 (λ e. omega arith)) (omega arith) };
+    ghost lawful = { λ _. element_lawful enumerated_tag (signed_laws w64) (primitively_begins (IsSigned w64)) (primitive_elements (IsSigned w64)) (not_end 10 (λ e. omega arith)) (omega arith) };
 
     ghost non_empty = { λ u m v. element_non_empty _ _ _ _ };
 }
@@ -421,7 +422,7 @@ impl Notation for ObjectIdentifier {
         oid_len(under.unwrap_or(TAG_OID), value)
     }
 
-    ghost lawful = { λ _. element_lawful oid_tag oid_laws (primitively_begins AreComponents) (not_end 6 (λ e. omega arith)) (omega arith) };
+    ghost lawful = { λ _. element_lawful oid_tag oid_laws (primitively_begins AreComponents) (primitive_elements AreComponents) (not_end 6 (λ e. omega arith)) (omega arith) };
 
     ghost non_empty = { λ u m v. element_non_empty _ _ _ _ };
 }
@@ -477,7 +478,7 @@ impl Notation for BigInteger {
         bigint_len(under.unwrap_or(TAG_INTEGER), value.0.as_slice(), value.1)
     }
 
-    ghost lawful = { λ _. element_lawful integer_tag (seen_laws big_integer_in big_integer_laws) (primitively_begins IsBigInteger) (not_end 2 (λ e. omega arith)) (omega arith) };
+    ghost lawful = { λ _. element_lawful integer_tag (seen_laws big_integer_in big_integer_laws) (primitively_begins IsBigInteger) (primitive_elements IsBigInteger) (not_end 2 (λ e. omega arith)) (omega arith) };
 
     ghost non_empty = { λ u m v. element_non_empty _ _ _ _ };
 }

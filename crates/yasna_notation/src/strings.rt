@@ -14,6 +14,7 @@ ghost use Rattle.yasna_base.specs.Text.{utf8_tag, printable_tag, ia5_tag, numeri
 ghost use Rattle.yasna_base.proofs.Identifier.{not_end};
 ghost use Rattle.yasna_base.proofs.UnderTags.{bits_under_tags};
 ghost use Rattle.yasna_bytes.specs.Segments.{bits_in};
+ghost use Rattle.yasna_notation.specs.Elements.{bits_elements, octets_elements, string_elements};
 ghost use Rattle.yasna_notation.specs.Laws.{element_lawful, seen_laws, octets_of, octets_laws, octets_begin, bits_begin, text_begins, text_laws, class_laws};
 ghost use Rattle.yasna_notation.specs.Laws.{octets_non_empty, bits_non_empty, text_non_empty};
 
@@ -70,7 +71,7 @@ impl Notation for Vec<u8> {
         bytes_len(mode, under.unwrap_or(TAG_OCTETSTRING), value.as_slice())
     }
 
-    ghost lawful = { λ _. element_lawful octets_tag (seen_laws octets_of octets_laws) (octets_begin) (not_end 4 (λ e. omega arith)) (omega arith) };
+    ghost lawful = { λ _. element_lawful octets_tag (seen_laws octets_of octets_laws) octets_begin octets_elements (not_end 4 (λ e. omega arith)) (omega arith) };
 
     ghost non_empty = { λ u m v. octets_non_empty (tag_or u octets_tag) m v.items };
 }
@@ -126,7 +127,7 @@ impl Notation for BitString {
         bitvec_len(mode, under.unwrap_or(TAG_BITSTRING), value.0.as_slice())
     }
 
-    ghost lawful = { λ _. element_lawful bits_tag (seen_laws bits_in bits_under_tags) (bits_begin) (not_end 3 (λ e. omega arith)) (omega arith) };
+    ghost lawful = { λ _. element_lawful bits_tag (seen_laws bits_in bits_under_tags) bits_begin bits_elements (not_end 3 (λ e. omega arith)) (omega arith) };
 
     ghost non_empty = { λ u m v. bits_non_empty (tag_or u bits_tag) m (bits_in v) };
 }
@@ -175,7 +176,7 @@ impl Notation for String {
         text_len(mode, under.unwrap_or(TAG_UTF8STRING), value.as_str())
     }
 
-    ghost lawful = { λ _. element_lawful utf8_tag text_laws (text_begins InUtf8) (not_end 12 (λ e. omega arith)) (omega arith) };
+    ghost lawful = { λ _. element_lawful utf8_tag text_laws (text_begins InUtf8) (string_elements (IsUtf8In InUtf8)) (not_end 12 (λ e. omega arith)) (omega arith) };
 
     ghost non_empty = { λ u m v. text_non_empty (tag_or u utf8_tag) m (characters v) };
 }
@@ -227,7 +228,7 @@ impl Notation for PrintableString {
         text_len(mode, under.unwrap_or(TAG_PRINTABLESTRING), value.as_str())
     }
 
-    ghost lawful = { λ _. element_lawful printable_tag (class_laws InPrintable) (text_begins InPrintable) (not_end 19 (λ e. omega arith)) (omega arith) };
+    ghost lawful = { λ _. element_lawful printable_tag (class_laws InPrintable) (text_begins InPrintable) (string_elements (IsUtf8In InPrintable)) (not_end 19 (λ e. omega arith)) (omega arith) };
 
     ghost non_empty = { λ u m v. text_non_empty (tag_or u printable_tag) m (characters v) };
 }
@@ -279,7 +280,7 @@ impl Notation for Ia5String {
         text_len(mode, under.unwrap_or(TAG_IA5STRING), value.as_str())
     }
 
-    ghost lawful = { λ _. element_lawful ia5_tag (class_laws InIa5) (text_begins InIa5) (not_end 22 (λ e. omega arith)) (omega arith) };
+    ghost lawful = { λ _. element_lawful ia5_tag (class_laws InIa5) (text_begins InIa5) (string_elements (IsUtf8In InIa5)) (not_end 22 (λ e. omega arith)) (omega arith) };
 
     ghost non_empty = { λ u m v. text_non_empty (tag_or u ia5_tag) m (characters v) };
 }
@@ -331,7 +332,7 @@ impl Notation for NumericString {
         text_len(mode, under.unwrap_or(TAG_NUMERICSTRING), value.as_str())
     }
 
-    ghost lawful = { λ _. element_lawful numeric_tag (class_laws InNumeric) (text_begins InNumeric) (not_end 18 (λ e. omega arith)) (omega arith) };
+    ghost lawful = { λ _. element_lawful numeric_tag (class_laws InNumeric) (text_begins InNumeric) (string_elements (IsUtf8In InNumeric)) (not_end 18 (λ e. omega arith)) (omega arith) };
 
     ghost non_empty = { λ u m v. text_non_empty (tag_or u numeric_tag) m (characters v) };
 }
@@ -383,7 +384,7 @@ impl Notation for VisibleString {
         text_len(mode, under.unwrap_or(TAG_VISIBLESTRING), value.as_str())
     }
 
-    ghost lawful = { λ _. element_lawful visible_tag (class_laws InVisible) (text_begins InVisible) (not_end 26 (λ e. omega arith)) (omega arith) };
+    ghost lawful = { λ _. element_lawful visible_tag (class_laws InVisible) (text_begins InVisible) (string_elements (IsUtf8In InVisible)) (not_end 26 (λ e. omega arith)) (omega arith) };
 
     ghost non_empty = { λ u m v. text_non_empty (tag_or u visible_tag) m (characters v) };
 }

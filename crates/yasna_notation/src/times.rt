@@ -10,6 +10,7 @@ ghost use Rattle.yasna_base.proofs.Identifier.{not_end};
 ghost use Rattle.yasna_times.specs.Models.{utc_of, moment_of};
 ghost use Rattle.yasna_times.specs.UtcTime.{SpellsUtcTime, utc_time_tag, utc_text, utc_time_encoding, utc_time_depth};
 ghost use Rattle.yasna_times.specs.GeneralizedTime.{SpellsGeneralizedTime, generalized_time_tag, general_text, generalized_time_encoding, generalized_time_depth};
+ghost use Rattle.yasna_notation.specs.Elements.{string_elements};
 ghost use Rattle.yasna_notation.specs.Laws.{element_lawful, string_begins, utc_laws, general_laws, octets_non_empty};
 
 use crate::notation::Notation;
@@ -63,7 +64,7 @@ impl Notation for UTCTime {
         utctime_len(under.unwrap_or(TAG_UTCTIME), value)
     }
 
-    ghost lawful = { λ _. element_lawful utc_time_tag utc_laws (string_begins SpellsUtcTime) (not_end 23 (λ e. omega arith)) (omega arith) };
+    ghost lawful = { λ _. element_lawful utc_time_tag utc_laws (string_begins SpellsUtcTime) (string_elements SpellsUtcTime) (not_end 23 (λ e. omega arith)) (omega arith) };
 
     ghost non_empty = { λ u m v. octets_non_empty (tag_or u utc_time_tag) m (utc_text (utc_of v)) };
 }
@@ -116,7 +117,7 @@ impl Notation for GeneralizedTime {
         generalized_time_len(under.unwrap_or(TAG_GENERALIZEDTIME), value)
     }
 
-    ghost lawful = { λ _. element_lawful generalized_time_tag general_laws (string_begins SpellsGeneralizedTime) (not_end 24 (λ e. omega arith)) (omega arith) };
+    ghost lawful = { λ _. element_lawful generalized_time_tag general_laws (string_begins SpellsGeneralizedTime) (string_elements SpellsGeneralizedTime) (not_end 24 (λ e. omega arith)) (omega arith) };
 
     ghost non_empty = { λ u m v. octets_non_empty (tag_or u generalized_time_tag) m (general_text (moment_of v)) };
 }

@@ -21,6 +21,7 @@ use Rattle.yasna_base.proofs.Optional.{some_not_empty, left_out_before, option_w
 use Rattle.yasna_base.proofs.Sequence.{part_written}
 use Rattle.yasna_reader.proofs.DefaultParts.{narrower_contents}
 use Rattle.yasna_reader.proofs.PartsByTags.{left_out_in_range}
+use Rattle.yasna_notation.specs.Elements.{option_joined}
 use Rattle.yasna_notation.specs.Notation.{IsNotation}
 use Rattle.yasna_notation.specs.Parts.{AreParts, all_known, is_known}
 use Rattle.yasna_notation_constraints.specs.TestedDefaults.{IsOneValue, one_alike, true_not_false}
@@ -190,6 +191,7 @@ module _ {A V : Type 0} {tags_known others : Bool} {ts us : List Tag} {E : A →
             (left_out_before x.coding (or_default_meaning is one x.coding) (unambiguous_before begins after t.none_shared) y.coding);
         begins = λ _. record { at = λ m n h s i p. options.at m n h s i (fewer is one x.coding Q m n h p) };
         in_range = record { at = λ m n h s u i p. range.at m n h s u i (fewer is one x.coding Q m n h p) };
+        joined = λ m n h p. option_joined x.single y.joined m n h (fewer is one x.coding Q m n h p);
         exact = part_exact (or_default_exact is (one_alike is one x.coding.meaning.equal) x.exact) y.exact;
       }
 

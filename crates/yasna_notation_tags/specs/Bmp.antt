@@ -12,7 +12,7 @@ use Rattle.yasna_base.specs.Canonical.{IsWritten}
 use Rattle.yasna_base.specs.Coding.{IsCoding, Any}
 use Rattle.yasna_base.specs.Exact.{written_fits}
 use Rattle.yasna_base.specs.Grammar.{TaggedGrammar}
-use Rattle.yasna_base.specs.Identifier.{end_tag, BeginsWithTag}
+use Rattle.yasna_base.specs.Identifier.{AnyTag, end_tag, BeginsWithTag}
 use Rattle.yasna_base.specs.Text.{InUtf8, IsTextIn, units, IsBmp, IsPairedBmp, IsStringOf, bmp_octets, bmp_encoding, bmp_depth, characters}
 use Rattle.yasna_base.specs.UnderTags.{IsExactUnderTags}
 use Rattle.yasna_base.proofs.Bmp.{bmp_coding, bmp_keeps, paired_written}
@@ -21,6 +21,7 @@ use Rattle.yasna_base.proofs.Exact.{written_exact}
 use Rattle.yasna_base.proofs.Texts.{string_text}
 use Rattle.yasna_notation.specs.Bounded.{Within}
 use Rattle.yasna_notation.specs.Canonical.{IsWrittenUnderTags}
+use Rattle.yasna_notation.specs.Elements.{AreSingleElements, string_elements}
 use Rattle.yasna_notation.specs.Laws.{octets_non_empty, string_begins}
 use Rattle.yasna_notation.specs.WithinMode.{within_mode_coding}
 
@@ -93,6 +94,9 @@ bmp_laws t not_end range = (within_mode_coding (λ m. has_known) (encodes_bmp_co
 
 pub bmp_begins : (t : Tag) (m : BERMode) (n : ℕ) (b : List ℕ) → Any (Within has_known (EncodesBmp t)) m n b → BeginsWithTag t b
 bmp_begins t m n b p = string_begins IsBmp t m n b (characters p.0, p.1.0)
+
+pub bmp_elements : AnyTag (λ t. AreSingleElements (Any (Within has_known (EncodesBmp t))))
+bmp_elements t other range m n b p = string_elements IsBmp t other range m n b (characters p.0, p.1.0)
 
 pub bmp_non_empty : (t : Tag) (m : BERMode) (text : List ℕ) → bmp_encoding t m text ≡ [] → ⊥
 bmp_non_empty t m text = octets_non_empty t m (bmp_octets text)

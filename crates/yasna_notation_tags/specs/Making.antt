@@ -9,6 +9,7 @@ use Rattle.yasna_base.specs.Identifier.{end_tag, tag_or, universal}
 use Rattle.yasna_base.proofs.ExplicitTags.{enclosed_begins, tagged_written}
 use Rattle.yasna_base.proofs.Identifier.{not_end}
 use Rattle.yasna_notation.specs.Canonical.{element_written, implicit_written}
+use Rattle.yasna_notation.specs.Elements.{explicit_elements}
 use Rattle.yasna_notation.specs.Laws.{application, application_not_end, element_lawful, explicit_laws, implicit_lawful}
 use Rattle.yasna_notation.specs.Notation.{IsNotation, NotationKeepsLaws, IsWrittenAs}
 use Rattle.yasna_notation_tags.specs.Tags.{private, private_not_end}
@@ -43,13 +44,13 @@ module _ {A : Type 0} {E : A → A → Type 0} {B : Grammar A} {encoding : Encod
     pub explicit_application : k < 2 ^ 64 → IsNotation tags_known ts E B S encoding Fits Can →
         NotationKeepsLaws true (application k ∷ []) true E (λ u. Enclosed B (tag_or u (application k))) (λ u. AnyEnclosed S (tag_or u (application k)))
         (λ u. enclosed_encoding encoding (tag_or u (application k))) (enclosed_fits Fits) Can
-    explicit_application range x = element_lawful (application k) (explicit_laws x) (enclosed_begins S) (application_not_end k) range
+    explicit_application range x = element_lawful (application k) (explicit_laws x) (enclosed_begins S) (explicit_elements x.single) (application_not_end k) range
 
     -- under [PRIVATE k] EXPLICIT
     pub explicit_private : k < 2 ^ 64 → IsNotation tags_known ts E B S encoding Fits Can →
         NotationKeepsLaws true (private k ∷ []) true E (λ u. Enclosed B (tag_or u (private k))) (λ u. AnyEnclosed S (tag_or u (private k)))
         (λ u. enclosed_encoding encoding (tag_or u (private k))) (enclosed_fits Fits) Can
-    explicit_private range x = element_lawful (private k) (explicit_laws x) (enclosed_begins S) (private_not_end k) range
+    explicit_private range x = element_lawful (private k) (explicit_laws x) (enclosed_begins S) (explicit_elements x.single) (private_not_end k) range
 
   -- the laws of writing
   module _ {depth : Depth A} {Can : A → Type 0} (x : IsWritten E B encoding depth Can) (k : ℕ) where

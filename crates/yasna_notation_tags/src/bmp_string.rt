@@ -11,7 +11,7 @@ ghost use Rattle.yasna_base.proofs.Identifier.{not_end};
 ghost use Rattle.yasna_notation.specs.Bounded.{Within};
 ghost use Rattle.yasna_notation.specs.Canonical.{element_written};
 ghost use Rattle.yasna_notation.specs.Laws.{element_lawful};
-ghost use Rattle.yasna_notation_tags.specs.Bmp.{EncodesBmp, is_known, has_known, bmp_laws, bmp_begins, bmp_under, bmp_non_empty};
+ghost use Rattle.yasna_notation_tags.specs.Bmp.{EncodesBmp, is_known, has_known, bmp_laws, bmp_begins, bmp_under, bmp_non_empty, bmp_elements};
 
 use yasna_base::tags::TAG_BMPSTRING;
 use yasna_base::{ASN1Error, ASN1ErrorKind, ASN1Result, Tag};
@@ -63,7 +63,7 @@ impl Notation for BmpString {
         writer.write_bmp_string(value.as_str())
     }
 
-    ghost lawful = { λ _. element_lawful bmp_tag bmp_laws bmp_begins (not_end 30 (λ e. omega arith)) (omega arith) };
+    ghost lawful = { λ _. element_lawful bmp_tag bmp_laws bmp_begins bmp_elements (not_end 30 (λ e. omega arith)) (omega arith) };
 
     ghost non_empty = { λ u m v. bmp_non_empty (tag_or u bmp_tag) m (characters v) };
 }

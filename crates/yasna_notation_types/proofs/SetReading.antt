@@ -40,7 +40,8 @@ use Rattle.yasna_notation.specs.declared.choices.Either.TheVariants.{First, Seco
 use Rattle.yasna_notation.specs.Choices.{sides}
 use Rattle.yasna_notation.proofs.Contents.{paired}
 use Rattle.yasna.proofs.Closures.{by_run}
-use Rattle.yasna_notation_types.specs.SetParts.{Pieced, PickOf, OptionPick, DefaultPick, OmitsDefault, PickMaybe, AreSetParts, AreSingleElements}
+use Rattle.yasna_notation.specs.Elements.{AreSingleElements}
+use Rattle.yasna_notation_types.specs.SetParts.{Pieced, PickOf, OptionPick, DefaultPick, OmitsDefault, PickMaybe, AreSetParts}
 use Rattle.yasna_notation_types.specs.SetParts.{tags_precede, all_others, pick_once, others_without, tagged, omits_default, not_both}
 use Rattle.yasna_notation_types.specs.SetReading.{encodings_of, AreFound, set_result, ReadsPicks, ReadsSetParts, Chose, ChoseNone, ChoseWrong, ChosenIs, ReadsSetPart, value_or_default, as_second}
 
@@ -135,26 +136,29 @@ bytes_append (x ∷ a) b = ap (λ k. x.bytes.now ∷ k) (bytes_append a b)
 found_tag : (n : ℕ) (m : BERMode) (x : SetElement) (f : (v : RawValue) × IsElementOf n m x v) → BeginsWithTag x.tag x.bytes.now
 found_tag n m x f = subst (λ t. BeginsWithTag t x.bytes.now) (sym f.1.tag) (raw_begins n m f.0 x.bytes.now f.1.raw).begins
 
-only_tag : (t u : Tag) → Contains (t ∷ []) u → t ≡ u
-only_tag t u (zero, p, e) = e
-only_tag t u (suc k, p, e) = absurd (omega (arith, p))
+-- what begins with one of some tags begins with one of them
+begins_with_one : (ts : List Tag) (u : Tag) (b : List ℕ) → Contains ts u → BeginsWithTag u b → BeginsWithOne ts b
+begins_with_one [] u b (k, p, e) h = absurd (omega (arith, p))
+begins_with_one (t ∷ ts) u b (zero, p, e) h = inl (subst (λ x. BeginsWithTag x b) (sym e) h)
+begins_with_one (t ∷ ts) u b (suc k, p, e) h = inr (begins_with_one ts u b (k, omega (arith, p), e) h)
 
-only_one : (t : Tag) (b : List ℕ) → BeginsWithOne (t ∷ []) b → BeginsWithTag t b
-only_one t b (inl x) = x
-only_one t b (inr x) = absurd x
+contains_its : (ts : List Tag) (u : Tag) (b : List ℕ) → BeginsWithOne ts b → BeginsWithTag u b → Contains ts u
+contains_its [] u b h g = absurd h
+contains_its (t ∷ ts) u b (inl h) g = (0, omega arith, begins_once t u b h g)
+contains_its (t ∷ ts) u b (inr h) g = let z = contains_its ts u b h g in (suc z.0, omega (arith, z.1), z.2)
 
-none_has : (t : Tag) (n : ℕ) (m : BERMode) (l : List SetElement) → ((k : ℕ) (d : SetElement) → 0 ≤ k → k < length l → IsAmong (t ∷ []) (slice_index_or l k d) → ⊥) →
-    AreFound n m l → AllByRecursion (λ b. BeginsWithOne (t ∷ []) b → ⊥) (encodings_of l)
-none_has t n m [] h f = tt
-none_has t n m (x ∷ l) h f = (
-  λ b. h 0 x (omega arith) (omega arith) (0, omega arith, begins_once t x.tag x.bytes.now (only_one t x.bytes.now b) (found_tag n m x f.0)),
-  none_has t n m l (λ k d a p. h (suc k) d (omega arith) (omega (arith, p))) f.1,
+none_has : (ts : List Tag) (n : ℕ) (m : BERMode) (l : List SetElement) → ((k : ℕ) (d : SetElement) → 0 ≤ k → k < length l → IsAmong ts (slice_index_or l k d) → ⊥) →
+    AreFound n m l → AllByRecursion (λ b. BeginsWithOne ts b → ⊥) (encodings_of l)
+none_has ts n m [] h f = tt
+none_has ts n m (x ∷ l) h f = (
+  λ b. h 0 x (omega arith) (omega arith) (contains_its ts x.tag x.bytes.now b (found_tag n m x f.0)),
+  none_has ts n m l (λ k d a p. h (suc k) d (omega arith) (omega (arith, p))) f.1,
 )
 
 module _ {A : Type 0} {E : A → A → Type 0} {B : Grammar A} {S : Members} (laws : IsCoding E B S) (may_allocate : Bool) (N : Does A)
-    (decoder : IsDecoder may_allocate B S N) (t : Tag) (c c' : SetReading) (fresh : IsFresh c.reader)
+    (decoder : IsDecoder may_allocate B S N) (ts : List Tag) (c c' : SetReading) (fresh : IsFresh c.reader)
     (found : AreFound c.reader.levels c.reader.mode c.list.items) where
-  taken : (r : Result (Option A) ASN1Error) → ReadsTaken N (t ∷ []) c r c' → ChosenIs B S (t ∷ []) c r c'
+  taken : (r : Result (Option A) ASN1Error) → ReadsTaken N ts c r c' → ChosenIs B S ts c r c'
   taken r h = by_own h.own (single_is laws may_allocate N decoder h.single single_fresh h.own c'.reader h.reads) h.returned
     where
       place : ℕ
@@ -183,10 +187,10 @@ module _ {A : Type 0} {E : A → A → Type 0} {B : Grammar A} {S : Members} (la
       others_are : encodings_of c'.list.items ≡ encodings_of (take place l) ++ encodings_of (drop (suc place) l)
       others_are = ap encodings_of h.takes.others ∙ bytes_append (take place l) (drop (suc place) l)
 
-      tag_is : BeginsWithTag t element.bytes.now
+      tag_is : BeginsWithOne ts element.bytes.now
       tag_is =
-          let same = only_tag t element.tag (subst (λ (x : SetElement). IsAmong (t ∷ []) x) (h.takes.found element) (h.takes.first.here element)) in
-          subst (λ u. BeginsWithTag u element.bytes.now) (sym same) (found_tag c.reader.levels c.reader.mode element split.0)
+          begins_with_one ts element.tag element.bytes.now (subst (λ (x : SetElement). IsAmong ts x) (h.takes.found element) (h.takes.first.here element))
+          (found_tag c.reader.levels c.reader.mode element split.0)
 
       left_is : h.single.left ≡ element.bytes.now
       left_is = ap (λ (k : Reading). k.left) h.takes.state
@@ -197,38 +201,38 @@ module _ {A : Type 0} {E : A → A → Type 0} {B : Grammar A} {S : Members} (la
       levels_is : h.single.levels ≡ c.reader.levels
       levels_is = ap (λ (k : Reading). k.levels) h.takes.state
 
-      by_own : (q : Result A ASN1Error) → SingleIs B S h.single q c'.reader → r ≡ some q → ChosenIs B S (t ∷ []) c r c'
-      by_own (Ok v) k e = subst (λ x. ChosenIs B S (t ∷ []) c x c') (sym e) (record {
+      by_own : (q : Result A ASN1Error) → SingleIs B S h.single q c'.reader → r ≡ some q → ChosenIs B S ts c r c'
+      by_own (Ok v) k e = subst (λ x. ChosenIs B S ts c x c') (sym e) (record {
         before = encodings_of (take place l);
         one = element.bytes.now;
         after = encodings_of (drop (suc place) l);
         whole = whole_is;
         others = others_are;
-        has_tag = inl tag_is;
+        has_tag = tag_is;
         encodes = subst (λ (y : Reading). B y.mode y.levels v y.left) h.takes.state k.encodes;
         reader = k.state ∙ ap (λ (y : Reading). record y { left = [] }) h.takes.state
             ∙ ap (λ (u : Option Tag). record c.reader { left = []; tag = u }) (sym fresh.1);
         found = subst (AreFound c.reader.levels c.reader.mode) (sym h.takes.others) split.1;
       })
-      by_own (Err d) k e = subst (λ x. ChosenIs B S (t ∷ []) c x c') (sym e) (record {
+      by_own (Err d) k e = subst (λ x. ChosenIs B S ts c x c') (sym e) (record {
         before = encodings_of (take place l);
         one = element.bytes.now;
         after = encodings_of (drop (suc place) l);
         whole = whole_is;
-        has_tag = inl tag_is;
+        has_tag = tag_is;
         none = subst (λ (y : Reading). (kind_of d ≡ OutOfMemory → ⊥) → S y.mode y.levels y.left → ⊥) h.takes.state k.none;
         is_sticky = k.is_sticky;
       })
 
-  none_chosen : (r : Result (Option A) ASN1Error) → ReadsNone (t ∷ []) c r c' → ChosenIs B S (t ∷ []) c r c'
-  none_chosen r h = subst (λ x. ChosenIs B S (t ∷ []) c x c') (sym h.returned) (record {
-    none = none_has t c.reader.levels c.reader.mode c.list.items h.none found;
+  none_chosen : (r : Result (Option A) ASN1Error) → ReadsNone ts c r c' → ChosenIs B S ts c r c'
+  none_chosen r h = subst (λ x. ChosenIs B S ts c x c') (sym h.returned) (record {
+    none = none_has ts c.reader.levels c.reader.mode c.list.items h.none found;
     others = h.others;
     reader = h.state ∙ ap (λ (u : Option Tag). record c.reader { tag = u }) (sym fresh.1);
   })
 
-  chosen_is : (r : Result (Option A) ASN1Error) → ReadsChosen N (t ∷ []) c r c' → ChosenIs B S (t ∷ []) c r c'
-  chosen_is r h = elim (subst (λ k. ReadsChosenBy k N (t ∷ []) c r c') fresh.0 h.reads) [
+  chosen_is : (r : Result (Option A) ASN1Error) → ReadsChosen N ts c r c' → ChosenIs B S ts c r c'
+  chosen_is r h = elim (subst (λ k. ReadsChosenBy k N ts c r c') fresh.0 h.reads) [
     | inl x ↦ taken r x
     | inr x ↦ none_chosen r x
   ]
@@ -261,14 +265,14 @@ chosen_called {A} g f N ts c r c' h obeys = record { reads = by_sticky c.reader.
     by_sticky None (inl x) = inl (record { single = x.single; takes = x.takes; own = x.own; reads = prefix_free x.single x.own c'.reader x.reads; returned = x.returned })
     by_sticky None (inr x) = inr x
 
--- a part with one tag
+-- a part with these tags
 pub single_read : {A F : Type 0} {E : A → A → Type 0} {B : Grammar A} {S : Members}
     (g : Once F (MutBor Reading × Unit {0}) (Result A ASN1Error × (MutBor Reading × Unit {0}))) (f : F) (laws : IsCoding E B S) (may_allocate : Bool) (N : Does A) →
-    IsDecoder may_allocate B S N → (t : Tag) (c : SetReading) (r : Result (Option A) ASN1Error) (c' : SetReading) →
-    ReadsChosen (FnOnceReturnsAtMut g f) (t ∷ []) c r c' →
-    ((p q : MutBor Reading) (x : Result A ASN1Error) → g.post f (p, tt) (x, (q, tt)) → N p.now x q.now) → ReadsSetPart (t ∷ []) B S c r c'
-single_read g f laws may_allocate N decoder t c r c' h obeys = record {
-  reads = λ fresh found. chosen_is laws may_allocate N decoder t c c' fresh found r (chosen_called g f N (t ∷ []) c r c' h obeys);
+    IsDecoder may_allocate B S N → (ts : List Tag) (c : SetReading) (r : Result (Option A) ASN1Error) (c' : SetReading) →
+    ReadsChosen (FnOnceReturnsAtMut g f) ts c r c' →
+    ((p q : MutBor Reading) (x : Result A ASN1Error) → g.post f (p, tt) (x, (q, tt)) → N p.now x q.now) → ReadsSetPart ts B S c r c'
+single_read g f laws may_allocate N decoder ts c r c' h obeys = record {
+  reads = λ fresh found. chosen_is laws may_allocate N decoder ts c c' fresh found r (chosen_called g f N ts c r c' h obeys);
 }
 
 -- the same elements

@@ -27,7 +27,7 @@ use Rattle.yasna_notation.specs.Canonical.{IsWrittenUnderTags, element_written, 
 use Rattle.yasna_notation.specs.Laws.{element_lawful, represented_lawful}
 use Rattle.yasna_notation.specs.Notation.{NotationKeepsLaws, IsWrittenAs}
 use Rattle.yasna_notation.specs.WithinMode.{WithinMode}
-use Rattle.yasna_notation_types.specs.NamedBits.{ends_in_one, ends_well, last_bit, EncodesBits, named_bits_begin, named_bits_laws}
+use Rattle.yasna_notation_types.specs.NamedBits.{ends_in_one, ends_well, last_bit, EncodesBits, named_bits_begin, named_bits_laws, named_bits_elements}
 use Rattle.yasna_notation_types.specs.PlainBits.{can_again}
 
 -- the bit at a place; the first bit of a byte is its highest, and after the last byte all bits are zero
@@ -272,7 +272,7 @@ least_laws t not_end range = (least_coding t (named_bits_laws t not_end range).0
 pub least_lawful : NotationKeepsLaws true (bits_tag ∷ []) true (λ v w. same_least (bits_in v) (bits_in w)) (λ u m n v b. EncodesLeast (tag_or u bits_tag) m n (bits_in v) b)
     (λ u. Any (WithinMode ends_well (EncodesBits u))) (λ u m v. least_encoding (tag_or u bits_tag) m (bits_in v))
     (λ m n v. written_fits least_depth CanLeast m n (bits_in v)) (λ v. CanLeast (bits_in v))
-least_lawful = represented_lawful bits_in (element_lawful bits_tag least_laws named_bits_begin (not_end 3 (λ e. omega arith)) (omega arith))
+least_lawful = represented_lawful bits_in (element_lawful bits_tag least_laws named_bits_begin named_bits_elements (not_end 3 (λ e. omega arith)) (omega arith))
 
 pub least_writes : IsWrittenAs true (λ v w. same_least (bits_in v) (bits_in w)) (λ u m n v b. EncodesLeast (tag_or u bits_tag) m n (bits_in v) b)
     (λ u m v. least_encoding (tag_or u bits_tag) m (bits_in v)) (λ m v. least_depth m (bits_in v)) (λ v. CanLeast (bits_in v))

@@ -6,7 +6,6 @@ pub mod NamedBits
 pub mod LeastBits
 pub mod SetParts
 pub mod SetReading
-pub mod Elements
 pub mod Rest
 pub mod Beginning
 pub mod Others

@@ -17,6 +17,7 @@ use Rattle.yasna_base.proofs.Identifier.{not_end}
 use Rattle.yasna_base.proofs.Integer.{number_written}
 use Rattle.yasna_notation.specs.Bounded.{Within, passes_alike}
 use Rattle.yasna_notation.specs.Canonical.{element_written, bounded_written, represented_written}
+use Rattle.yasna_notation.specs.Elements.{primitive_elements}
 use Rattle.yasna_notation.specs.Laws.{element_lawful, signed_laws, represented_lawful}
 use Rattle.yasna_notation.specs.Making.{in_bound}
 use Rattle.yasna_notation.specs.Notation.{Meaning, IsNotation, NotationKeepsLaws, MeaningKeepsLaws, IsWrittenAs, IsWrittenMeaning}
@@ -45,7 +46,7 @@ named_means number named Allowed = record {
 pub numbers_lawful : NotationKeepsLaws true (enumerated_tag ∷ []) true (λ v w. v ≡ w) EncodesNumber (λ u. Any (EncodesNumber u))
     (λ u. integer_encoding (tag_or u enumerated_tag)) (written_fits leaf_depth (FitsSigned w64)) (FitsSigned w64)
 numbers_lawful =
-    element_lawful enumerated_tag (signed_laws w64) (primitively_begins (IsSigned w64)) (not_end 10 (λ e. omega arith)) (omega arith)
+    element_lawful enumerated_tag (signed_laws w64) (primitively_begins (IsSigned w64)) (primitive_elements (IsSigned w64)) (not_end 10 (λ e. omega arith)) (omega arith)
 
 -- the laws hold too where what can be written is said in other words
 exact_where : {A : Type 0} {E : A → A → Type 0} {B : Grammar A} {encoding : Encoding A} {Fits : Fitting A} {Can Could : A → Type 0} →
@@ -61,7 +62,7 @@ exact_where is x = record {
 notation_where : {A : Type 0} {tags_known : Bool} {ts : List Tag} {E : A → A → Type 0} {B : Grammar A} {S : Members} {encoding : Encoding A}
     {Fits : Fitting A} {Can Could : A → Type 0} → ((v : A) → Could v ↔ Can v) → IsNotation tags_known ts E B S encoding Fits Can →
     IsNotation tags_known ts E B S encoding Fits Could
-notation_where is x = record { coding = x.coding; begins = x.begins; exact = exact_where is x.exact }
+notation_where is x = record { coding = x.coding; begins = x.begins; single = x.single; exact = exact_where is x.exact }
 
 pub lawful_where : {A : Type 0} {tags_known : Bool} {ts : List Tag} {retagged : Bool} {E : A → A → Type 0} {B : Option Tag → Grammar A}
     {S : Option Tag → Members} {encoding : Option Tag → Encoding A} {Fits : Fitting A} {Can Could : A → Type 0} → ((v : A) → Could v ↔ Can v) →

@@ -9,11 +9,12 @@ use Rattle.yasna_base.specs.Canonical.{IsCanonicalMode}
 use Rattle.yasna_base.specs.Coding.{IsCoding, Any}
 use Rattle.yasna_base.specs.Exact.{Fitting, written_fits}
 use Rattle.yasna_base.specs.Grammar.{Grammar, Members}
-use Rattle.yasna_base.specs.Identifier.{BeginsWithTag, tag_or}
+use Rattle.yasna_base.specs.Identifier.{AnyTag, BeginsWithTag, tag_or}
 use Rattle.yasna_base.specs.UnderTags.{IsExactUnderTags}
 use Rattle.yasna_base.proofs.Identifier.{not_end}
 use Rattle.yasna_base.proofs.UnderTags.{bits_under_tags}
 use Rattle.yasna_bytes.specs.Segments.{bits_in}
+use Rattle.yasna_notation.specs.Elements.{AreSingleElements, bits_elements}
 use Rattle.yasna_notation.specs.Laws.{bits_begin, element_lawful, represented_lawful}
 use Rattle.yasna_notation.specs.Notation.{NotationKeepsLaws}
 use Rattle.yasna_notation.specs.WithinMode.{WithinMode, within_mode_coding}
@@ -64,16 +65,19 @@ named_bits_laws t not_end range =
 pub named_bits_begin : (t : Tag) (m : BERMode) (n : ℕ) (b : List ℕ) → Any (WithinMode ends_well (IsBits t)) m n b → BeginsWithTag t b
 named_bits_begin t m n b p = bits_begin t m n b (p.0, p.1.0)
 
+pub named_bits_elements : AnyTag (λ t. AreSingleElements (Any (WithinMode ends_well (IsBits t))))
+named_bits_elements t other range m n b p = bits_elements t other range m n b (p.0, p.1.0)
+
 -- the grammar of BIT STRING with the tag u in place of its own, if there is one
 abbrev pub EncodesBits : Option Tag → Grammar BitString
 EncodesBits u m n v b = IsBits (tag_or u bits_tag) m n v b
 
 pub bits_lawful : NotationKeepsLaws true (bits_tag ∷ []) true (λ v w. v ≡ w) EncodesBits (λ u. Any (EncodesBits u)) (λ u. bits_encoding (tag_or u bits_tag))
     (written_fits bits_depth AreCanonicalBits) CanBits
-bits_lawful = element_lawful bits_tag bits_under_tags bits_begin (not_end 3 (λ e. omega arith)) (omega arith)
+bits_lawful = element_lawful bits_tag bits_under_tags bits_begin bits_elements (not_end 3 (λ e. omega arith)) (omega arith)
 
 pub named_bits_lawful : NotationKeepsLaws true (bits_tag ∷ []) true (λ v w. bits_in v ≡ bits_in w) (λ u m n v b. WithinMode ends_well (EncodesBits u) m n (bits_in v) b)
     (λ u. Any (WithinMode ends_well (EncodesBits u))) (λ u m v. bits_encoding (tag_or u bits_tag) m (bits_in v)) (λ m n v. named_fits m n (bits_in v))
     (λ v. CanBits (bits_in v))
 named_bits_lawful = represented_lawful bits_in
-    (element_lawful bits_tag named_bits_laws named_bits_begin (not_end 3 (λ e. omega arith)) (omega arith))
+    (element_lawful bits_tag named_bits_laws named_bits_begin named_bits_elements (not_end 3 (λ e. omega arith)) (omega arith))

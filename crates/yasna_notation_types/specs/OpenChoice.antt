@@ -20,6 +20,7 @@ use Rattle.yasna_base.proofs.SetWriting.{raw_begins}
 use Rattle.yasna_notation.specs.declared.choices.Either.{Either}
 use Rattle.yasna_notation.specs.Bounded.{Within, within_lawful}
 use Rattle.yasna_notation.specs.Choices.{sides, either_non_empty}
+use Rattle.yasna_notation.specs.Elements.{either_elements}
 use Rattle.yasna_notation.specs.Laws.{any_laws, defined_type_laws, never_retagged, raw_non_empty}
 use Rattle.yasna_notation.specs.Notation.{IsNotation, NotationKeepsLaws}
 
@@ -67,7 +68,7 @@ pub other_laws : (ts : List Tag) → IsNotation false [] same_any (EncodesOther 
     (λ m n v. any_fits m n v × (is_other ts v.tag ≡ true)) Always
 other_laws ts =
     let x = (within_lawful (λ v. is_other ts v.tag) (others_alike ts) any_lawful).own in
-    record { coding = x.coding; begins = x.begins; exact = always x.exact }
+    record { coding = x.coding; begins = x.begins; single = x.single; exact = always x.exact }
 
 -- an element begins with its tag
 pub any_begins : (m : BERMode) (n : ℕ) (v : TaggedDerValue) (b : List ℕ) → EncodesRawElement m n v b → BeginsWithTag v.tag b
@@ -94,7 +95,12 @@ pub open_laws : {A : Type 0} {ts : List Tag} {E : A → A → Type 0} {B : Gramm
 open_laws {ts = ts} x =
     let y = other_laws ts in
     defined_type_laws sides
-    (record { coding = choice x.coding y.coding (others_unambiguous (x.begins refl)); begins = λ e. absurd (cc); exact = choice_exact x.exact y.exact })
+    (record {
+      coding = choice x.coding y.coding (others_unambiguous (x.begins refl));
+      begins = λ e. absurd (cc);
+      single = either_elements x.single y.single;
+      exact = choice_exact x.exact y.exact;
+    })
 
 -- such a CHOICE has no tag of its own
 pub open_lawful : {A : Type 0} {ts : List Tag} {E : A → A → Type 0} {B : Grammar A} {S : Members} (encoding : Option Tag → Encoding A) {P : Fitting A}

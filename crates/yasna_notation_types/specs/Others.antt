@@ -23,6 +23,7 @@ use Rattle.yasna_base.proofs.Optional.{option_before}
 use Rattle.yasna_reader.proofs.DefaultParts.{default_part_before, less}
 use Rattle.yasna_reader.proofs.PartsByTags.{left_out_in_range}
 use Rattle.yasna_reader.specs.State.{Reading}
+use Rattle.yasna_notation.specs.Elements.{option_joined}
 use Rattle.yasna_notation.specs.Notation.{IsNotation}
 use Rattle.yasna_notation.specs.Parts.{AreParts}
 use Rattle.yasna_notation_types.specs.Beginning.{BeginWithin, StartsWithin, none_may, first_may, within_unambiguous, possible_begins}
@@ -108,6 +109,7 @@ others_laws ts x =
       coding = others_contents ts y.coding;
       begins = λ e. absurd (cc);
       in_range = record { at = λ m n c s u i p b. y.in_range.at m n c s u i p.0 b };
+      joined = λ m n c p. y.joined m n c p.0;
       exact = others_exact ts y.exact;
     }
 
@@ -140,6 +142,7 @@ possible_laws {tags_known = tags_known} {ts = ts} {a = a} {b = b} may first rest
       coding = option_before x.coding (within_unambiguous x.coding (x.begins t.is_known) (within t.others_unambiguous) t.none_shared) y.coding;
       begins = λ f. absurd (cc);
       in_range = left_out_in_range x.coding y.in_range;
+      joined = option_joined x.single y.joined;
       exact = part_exact (option_exact x.exact) y.exact;
     }
 
@@ -174,6 +177,7 @@ possible_default_laws {tags_known = tags_known} {ts = ts} {Q = Q} {a = a} {b = b
       coding = default_part_before is default detects x.coding (within_unambiguous x.coding (x.begins t.is_known) (within t.others_unambiguous) t.none_shared) y.coding;
       begins = λ f. absurd (cc);
       in_range = record { at = λ m n c s u i b. range.at m n c s u i (less Q is x.coding m n c b) };
+      joined = λ m n c b. option_joined x.single y.joined m n c (less Q is x.coding m n c b);
       exact = part_exact (default_exact is (default_alike is default detects x.coding.meaning.equal) x.exact) y.exact;
     }
 

@@ -23,6 +23,7 @@ use Rattle.yasna_base.specs.Identifier.{tag_or}
 use Rattle.yasna_base.proofs.Identifier.{not_end}
 use Rattle.yasna_bytes.specs.Segments.{bits_in}
 use Rattle.yasna_notation.specs.Canonical.{IsWrittenUnderTags, element_written, represented_written}
+use Rattle.yasna_notation.specs.Elements.{bits_elements}
 use Rattle.yasna_notation.specs.Laws.{bits_begin, element_lawful, represented_lawful}
 use Rattle.yasna_notation.specs.Notation.{NotationKeepsLaws, IsWrittenAs}
 
@@ -163,7 +164,7 @@ pub plain_lawful : NotationKeepsLaws true (bits_tag ∷ []) true (λ v w. same_u
     (λ u. Any (IsBits (tag_or u bits_tag))) (λ u m v. plain_encoding (tag_or u bits_tag) m (bits_in v))
     (λ m n v. written_fits bits_depth CanBits m n (bits_in v)) (λ v. CanBits (bits_in v))
 plain_lawful =
-    represented_lawful bits_in (element_lawful bits_tag plain_laws bits_begin (not_end 3 (λ e. omega arith)) (omega arith))
+    represented_lawful bits_in (element_lawful bits_tag plain_laws bits_begin bits_elements (not_end 3 (λ e. omega arith)) (omega arith))
 
 pub plain_writes : IsWrittenAs true (λ v w. same_used (bits_in v) (bits_in w)) (λ u m n v b. EncodesUsed (tag_or u bits_tag) m n (bits_in v) b)
     (λ u m v. plain_encoding (tag_or u bits_tag) m (bits_in v)) (λ m v. bits_depth m (bits_in v)) (λ v. CanBits (bits_in v))

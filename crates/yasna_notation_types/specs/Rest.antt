@@ -16,6 +16,7 @@ use Rattle.yasna_base.proofs.Exact.{exact_along, elements_exact}
 use Rattle.yasna_base.proofs.Identifier.{begins_once, begins_with}
 use Rattle.yasna_base.proofs.SequenceOf.{elements_contents, elements_written}
 use Rattle.yasna_reader.proofs.PartsByTags.{BeginInRange, end_in_range}
+use Rattle.yasna_notation.specs.Elements.{elements_joined}
 use Rattle.yasna_notation.specs.Notation.{IsNotation}
 use Rattle.yasna_notation.specs.Parts.{AreParts}
 
@@ -64,6 +65,7 @@ rest_laws {A} x =
       coding = contents_along items (elements_contents x.coding);
       begins = λ e. absurd (cc);
       in_range = elements_in_range x.coding;
+      joined = elements_joined x.single;
       exact = exact_along items (elements_exact x.exact);
     }
 

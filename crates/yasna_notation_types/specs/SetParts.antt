@@ -36,6 +36,7 @@ use Rattle.yasna_base.proofs.Exact.{enclosed_exact}
 use Rattle.yasna_base.proofs.ExplicitTags.{enclosed_begins}
 use Rattle.yasna_base.proofs.Identifier.{not_end}
 use Rattle.yasna_notation.specs.Canonical.{element_written}
+use Rattle.yasna_notation.specs.Elements.{AreSingleElements, AreJoined, enclosed_elements}
 use Rattle.yasna_notation.specs.Laws.{element_lawful}
 use Rattle.yasna_notation.specs.Notation.{IsNotation, NotationKeepsLaws, IsWrittenAs}
 use Rattle.yasna_notation.specs.Parts.{AreParts}
@@ -256,10 +257,6 @@ tags_after (u ∷ w ∷ us) x b e a = (w ∷ us, e.1, a.1)
 all_prefix : {X : Type 0} (P : X → Type 0) (a b : List X) → AllByRecursion P (a ++ b) → AllByRecursion P a
 all_prefix P [] b h = tt
 all_prefix P (x ∷ a) b h = (h.0, all_prefix P a b h.1)
-
--- each encoding is one element
-abbrev pub AreSingleElements : Members → Type 0
-AreSingleElements S = (m : BERMode) (n : ℕ) (b : List ℕ) → S m n b → (v : RawValue) × IsRaw m n v b
 
 -- a tag with which x begins, and all of some others come after it
 record Precedes (x : List ℕ) (ps : List (List ℕ)) : Type 0 where
@@ -514,20 +511,27 @@ module _ {A V : Type 0} {ts us : List Tag} {E : A → A → Type 0} {F : V → V
   }
 
 module _ {A V : Type 0} {ts us : List Tag} {E : A → A → Type 0} {F : V → V → Type 0} {B : Grammar A} {C : Grammar V} {S M : Members}
-    {P : Pieced V} {f : Encoding A} {G : Fitting A} {c : A → Type 0} (x : IsNotation true ts E B S f G c) (whole : AreSingleElements S)
-    (y : AreSetParts us F C P M) (above : tags_precede ts us ≡ true) (none : share_none ts us ≡ true) where
+    {P : Pieced V} {f : Encoding A} {G : Fitting A} {c : A → Type 0} (x : IsNotation true ts E B S f G c) (y : AreSetParts us F C P M)
+    (above : tags_precede ts us ≡ true) (none : share_none ts us ≡ true) where
   -- a part that is there
   pub set_part : AreSetParts (ts ++ us) (SamePart E F) (PartOf B C) (PickOf B P) (AnyEither S M)
-  set_part = part_keeps x.coding (x.begins refl) whole y above none
+  set_part = part_keeps x.coding (x.begins refl) x.single y above none
 
   -- a part that may be omitted
   pub set_option : AreSetParts (ts ++ us) (SamePart (SameOption E) F) (PartOf (OptionOf B) C) (OptionPick B P) (AnyEither S M)
-  set_option = option_keeps x.coding (x.begins refl) whole y above none
+  set_option = option_keeps x.coding (x.begins refl) x.single y above none
 
   -- a part with a default
   pub set_default : (is : A → Bool) (d : A) → DetectsDefault E is d →
       AreSetParts (ts ++ us) (SamePart E F) (PartOf (DefaultOf is B) C) (DefaultPick is B P) (AnyEither S M)
-  set_default is d detects = default_keeps is d detects x.coding (x.begins refl) whole y above none
+  set_default is d detects = default_keeps is d detects x.coding (x.begins refl) x.single y above none
+
+-- a part with a default: `set_default` with the default first
+pub set_with_default : {A V : Type 0} {ts us : List Tag} {E : A → A → Type 0} {F : V → V → Type 0} {B : Grammar A} {C : Grammar V} {S M : Members}
+    {P : Pieced V} {f : Encoding A} {G : Fitting A} {c : A → Type 0} (is : A → Bool) (d : A) → DetectsDefault E is d → IsNotation true ts E B S f G c →
+    AreSetParts us F C P M → tags_precede ts us ≡ true → share_none ts us ≡ true →
+    AreSetParts (ts ++ us) (SamePart E F) (PartOf (DefaultOf is B) C) (DefaultPick is B P) (AnyEither S M)
+set_with_default is d detects x y above none = set_default x y above none is d detects
 
 -- encodings, one after the other
 pub members_each : (S : List ℕ → Type 0) (ps : List (List ℕ)) → AllByRecursion S ps → (us : List (Unit {0})) × Each (λ u. S) us ps
@@ -614,27 +618,37 @@ set_known above none a b e =
 -- the laws of a type whose tags are known
 pub known_by_tags : {A : Type 0} {tags_known : Bool} {ts : List Tag} {E : A → A → Type 0} {B : Grammar A} {S : Members} {f : Encoding A} {G : Fitting A}
     {c : A → Type 0} → tags_known ≡ true → IsNotation tags_known ts E B S f G c → IsNotation true ts E B S f G c
-known_by_tags is x = record { coding = x.coding; begins = λ _. x.begins is; exact = x.exact }
+known_by_tags is x = record { coding = x.coding; begins = λ _. x.begins is; single = x.single; exact = x.exact }
 
 module _ {A V : Type 0} {tags_known : Bool} {ts us : List Tag} {E : A → A → Type 0} {F : V → V → Type 0} {B : Grammar A}
     {C : Grammar V} {S M : Members} {P : Pieced V} {f : Encoding A} {G : Fitting A} {c : A → Type 0} {a b : Bool} (is_known : tags_known ≡ true)
-    (first : a ≡ true → IsNotation tags_known ts E B S f G c) (whole : a ≡ true → AreSingleElements S) (rest : b ≡ true → AreSetParts us F C P M)
+    (first : a ≡ true → IsNotation tags_known ts E B S f G c) (rest : b ≡ true → AreSetParts us F C P M)
     (unambiguous : tags_precede ts us && (share_none ts us && (a && b)) ≡ true) where
   abbrev known : SetKnown (tags_precede ts us) (share_none ts us) a b
   known = set_known (tags_precede ts us) (share_none ts us) a b unambiguous
 
   pub set_part_laws : AreSetParts (ts ++ us) (SamePart E F) (PartOf B C) (PickOf B P) (AnyEither S M)
   set_part_laws =
-      set_part (known_by_tags is_known (first known.first_unambiguous)) (whole known.first_unambiguous) (rest known.others_unambiguous) known.after known.none_shared
+      set_part (known_by_tags is_known (first known.first_unambiguous)) (rest known.others_unambiguous) known.after known.none_shared
 
   pub set_option_laws : AreSetParts (ts ++ us) (SamePart (SameOption E) F) (PartOf (OptionOf B) C) (OptionPick B P) (AnyEither S M)
   set_option_laws =
-      set_option (known_by_tags is_known (first known.first_unambiguous)) (whole known.first_unambiguous) (rest known.others_unambiguous) known.after known.none_shared
+      set_option (known_by_tags is_known (first known.first_unambiguous)) (rest known.others_unambiguous) known.after known.none_shared
 
   pub set_default_laws : (is : A → Bool) (d : A) → DetectsDefault E is d →
       AreSetParts (ts ++ us) (SamePart E F) (PartOf (DefaultOf is B) C) (DefaultPick is B P) (AnyEither S M)
   set_default_laws =
-      set_default (known_by_tags is_known (first known.first_unambiguous)) (whole known.first_unambiguous) (rest known.others_unambiguous) known.after known.none_shared
+      set_default (known_by_tags is_known (first known.first_unambiguous)) (rest known.others_unambiguous) known.after known.none_shared
+
+-- the contents of a SET of parts are elements
+set_joined : {V : Type 0} {ts : List Tag} {E : V → V → Type 0} {C : Grammar V} {P : Pieced V} {M : Members} → AreSetParts ts E C P M → AreJoined (Any (SetOfParts P))
+set_joined {M = M} y m n c p =
+    let w = all_raw p.1.pieces (y.within m n p.0 p.1.pieces p.1.parts) in
+    (w.0, record { pieces = p.1.pieces; each = w.1; joined = p.1.joined })
+  where
+    all_raw : (ps : List (List ℕ)) → AllByRecursion (M m n) ps → (vs : List RawValue) × Each (IsRaw m n) vs ps
+    all_raw [] h = ([], tt)
+    all_raw (b ∷ bs) h = let v = y.raw m n b h.0 in let vs = all_raw bs h.1 in (v.0 ∷ vs.0, (v.1, vs.1))
 
 -- the laws of a SET of parts, under any tag
 pub set_lawful : {V : Type 0} {tags_known : Bool} {us ts : List Tag} {E : V → V → Type 0} {C : Grammar V} {Q : Members} {P : Pieced V} {M : Members}
@@ -644,7 +658,7 @@ pub set_lawful : {V : Type 0} {tags_known : Bool} {us ts : List Tag} {E : V → 
 set_lawful {P = P} x y =
     element_lawful set_tag
     (λ t not_end range. (enclosed t not_end (set_contents y x.coding.meaning.equal), enclosed_exact t range (set_exact y x.exact)))
-    (enclosed_begins (Any (SetOfParts P))) (not_end 17 (λ e. omega arith)) (omega arith)
+    (enclosed_begins (Any (SetOfParts P))) (enclosed_elements (Any (SetOfParts P)) (set_joined y)) (not_end 17 (λ e. omega arith)) (omega arith)
 
 -- the law of writing of a SET of parts, under any tag
 pub set_writes : {V : Type 0} {ts : List Tag} {E : V → V → Type 0} {C : Grammar V} {P : Pieced V} {M : Members}

@@ -8,7 +8,6 @@
 //! | `open_choice` | an extensible CHOICE |
 //! | `rest` | the elements at the end of an extensible SEQUENCE, after mandatory parts |
 //! | `others`, `possible_default`, `beginning` | these elements after OPTIONAL and DEFAULT parts, and such parts |
-//! | `elements` | types each of whose encodings is one element |
 //! | `set_part`, `set_choices` | types that may be a part of a SET |
 //! | `set_parts`, `set_defaults` | SET of parts |
 //! | `checked` | whether a value of one of these types can be written |
@@ -19,7 +18,6 @@
 
 mod beginning;
 mod checked;
-mod elements;
 mod least_bits;
 mod named;
 mod named_bits;
@@ -35,7 +33,6 @@ mod set_parts;
 mod statuses;
 
 pub use beginning::Beginning;
-pub use elements::{ElementParts, Elements};
 pub use least_bits::LeastBits;
 pub use named::{Named, Numbered};
 pub use named_bits::NamedBits;
@@ -45,6 +42,6 @@ pub use plain_bits::PlainBits;
 pub use possible_default::PossibleDefault;
 pub use rest::Rest;
 pub use set_choices::SetAlternatives;
-pub use set_part::SetPart;
+pub use set_part::{SetPart, read_part};
 pub use set_parts::{Set, SetParts};
 pub use statuses::{ResponseStatus, ResultCode};

@@ -1,11 +1,7 @@
 //! A CHOICE as a part of a SET (X.690, 8.11 and 8.13).
 ghost use Rattle.std.specs.Prelude.{◌≡◌, true, refl};
-ghost use Rattle.yasna_notation_types.specs.Elements.{last_element, either_element, choice_elements};
-ghost use Rattle.yasna_notation_types.specs.SetParts.{AreSingleElements};
 ghost use Rattle.yasna_notation_types.specs.SetReading.{ReadsSetPart, as_second};
-ghost use Rattle.yasna_base.specs.Beginnings.{share_none};
 
-use crate::elements::Elements;
 use crate::set_part::SetPart;
 use yasna_base::ASN1Result;
 use yasna_notation::{Alternatives, Choice, Either, Notation};
@@ -19,9 +15,6 @@ pub trait SetAlternatives: Alternatives {
     fn read_alternative(set: &mut BERReaderSet) -> ASN1Result<Option<Self::Value>>
         requires { Self.unambiguous ≡ true }
         ensures { ReadsSetPart Self.tags Self.encodes Self.elements set.old result set.new };
-
-    // Each encoding is one element.
-    ghost single: { Self.unambiguous ≡ true → AreSingleElements Self.elements };
 }
 
 // A value of the second type, if one was read.
@@ -40,8 +33,6 @@ impl<A: SetPart> SetAlternatives for (A,) {
     fn read_alternative(set: &mut BERReaderSet) -> ASN1Result<Option<A::Value>> {
         A::read_chosen(set)
     }
-
-    ghost single = { λ a. last_element A.means.tags_known (λ b. (A.elements b).own) a };
 }
 
 impl<A: SetPart, W: SetAlternatives> SetAlternatives for (A, W) {
@@ -56,15 +47,6 @@ impl<A: SetPart, W: SetAlternatives> SetAlternatives for (A, W) {
             None => as_second(W::read_alternative(set)),
         }
     }
-
-    ghost single = { λ a. either_element A.means.tags_known (share_none A.means.tags W.tags) (λ b. (A.elements b).own) W.single a };
-}
-
-impl<A: SetAlternatives> Elements for Choice<A>
-where
-    A::Value: Drop,
-{
-    ghost elements = { λ a. choice_elements (A.single a) };
 }
 
 impl<A: SetAlternatives> SetPart for Choice<A>

@@ -72,5 +72,5 @@ where
         Ok((first, others))
     }
 
-    ghost set_laws = { λ a. set_default_laws A.is_known (λ b. (A.lawful b).own) (λ b. (A.elements b).own) W.set_laws a D.is D.default D.detects };
+    ghost set_laws = { λ a. set_default_laws A.is_known (λ b. (A.lawful b).own) W.set_laws a D.is D.default D.detects };
 }

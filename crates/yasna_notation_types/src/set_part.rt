@@ -3,14 +3,13 @@ ghost use Rattle.std.specs.Prelude.{◌≡◌, ◌∷◌, [], None, true, refl};
 ghost use Rattle.yasna_base.specs.declared.tag.Tag.{Tag};
 ghost use Rattle.yasna_notation_types.specs.SetReading.{ReadsSetPart};
 
-use crate::elements::{ElementParts, Elements};
 use yasna_base::tags::{TAG_BOOLEAN, TAG_INTEGER, TAG_OCTETSTRING, TAG_SEQUENCE};
 use yasna_base::{ASN1Result, Tag};
-use yasna_notation::{Explicit, Implicit, Notation, Sequence, SequenceOf, TagName};
+use yasna_notation::{Explicit, Implicit, Notation, Parts, Sequence, SequenceOf, TagName};
 use yasna_reader::BERReaderSet;
 
 /// A type that may be a part of a SET: each encoding is one element, with one of its tags.
-pub trait SetPart: Elements {
+pub trait SetPart: Notation {
     /// Chooses an element of a SET by the type's tags, takes it out, and reads a value from it.
     ///
     /// Returns `None` if there is none. An error is sticky.
@@ -22,12 +21,22 @@ pub trait SetPart: Elements {
     ghost is_known: { Self.means.tags_known ≡ true };
 }
 
-// Reads the element of a SET that has this tag.
-fn read_by_tag<A: Elements>(tag: Tag, set: &mut BERReaderSet) -> ASN1Result<Option<A::Value>>
+/// Chooses the first element of a SET that has one of these tags, takes it out, and reads a value from it.
+///
+/// Returns `None` if there is none. An error is sticky. So a type with these tags is a `SetPart`.
+pub fn read_part<A: Notation>(tags: &[Tag], set: &mut BERReaderSet) -> ASN1Result<Option<A::Value>>
+    requires { A.unambiguous ≡ true }
+    ensures { ReadsSetPart tags.now (A.means.under None) (A.means.any_under None) set.old result set.new }
+{
+    set.read_optional(tags, |part| A::read(part))
+}
+
+// As `read_part`, of a type with one tag.
+fn read_by_tag<A: Notation>(tag: Tag, set: &mut BERReaderSet) -> ASN1Result<Option<A::Value>>
     requires { A.unambiguous ≡ true }
     ensures { ReadsSetPart (tag ∷ []) (A.means.under None) (A.means.any_under None) set.old result set.new }
 {
-    set.read_optional(&[tag], |part| A::read(part))
+    read_part::<A>(&[tag], set)
 }
 
 impl SetPart for bool {
@@ -57,7 +66,7 @@ impl SetPart for Vec<u8> {
     ghost is_known = { refl };
 }
 
-impl<T: TagName, N: Elements> SetPart for Implicit<T, N> {
+impl<T: TagName, N: Notation> SetPart for Implicit<T, N> {
     #[inline(always)]
     fn read_chosen(set: &mut BERReaderSet) -> ASN1Result<Option<N::Value>> {
         read_by_tag::<Implicit<T, N>>(T::tag(), set)
@@ -66,7 +75,7 @@ impl<T: TagName, N: Elements> SetPart for Implicit<T, N> {
     ghost is_known = { refl };
 }
 
-impl<T: TagName, N: Elements> SetPart for Explicit<T, N> {
+impl<T: TagName, N: Notation> SetPart for Explicit<T, N> {
     #[inline(always)]
     fn read_chosen(set: &mut BERReaderSet) -> ASN1Result<Option<N::Value>> {
         read_by_tag::<Explicit<T, N>>(T::tag(), set)
@@ -75,7 +84,7 @@ impl<T: TagName, N: Elements> SetPart for Explicit<T, N> {
     ghost is_known = { refl };
 }
 
-impl<P: ElementParts> SetPart for Sequence<P>
+impl<P: Parts> SetPart for Sequence<P>
 where
     P::Values: Drop,
 {
@@ -87,7 +96,7 @@ where
     ghost is_known = { refl };
 }
 
-impl<N: Elements> SetPart for SequenceOf<N> {
+impl<N: Notation> SetPart for SequenceOf<N> {
     #[inline(always)]
     fn read_chosen(set: &mut BERReaderSet) -> ASN1Result<Option<Vec<N::Value>>> {
         read_by_tag::<SequenceOf<N>>(TAG_SEQUENCE, set)

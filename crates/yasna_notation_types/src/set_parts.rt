@@ -93,7 +93,7 @@ impl<A: SetPart, W: SetParts> SetParts for (A, W) {
         Ok((first, others))
     }
 
-    ghost set_laws = { λ a. set_part_laws A.is_known (λ b. (A.lawful b).own) (λ b. (A.elements b).own) W.set_laws a };
+    ghost set_laws = { λ a. set_part_laws A.is_known (λ b. (A.lawful b).own) W.set_laws a };
 }
 
 impl<A: SetPart, W: SetParts> SetParts for (Optional<A>, W) {
@@ -118,7 +118,7 @@ impl<A: SetPart, W: SetParts> SetParts for (Optional<A>, W) {
         Ok((first, others))
     }
 
-    ghost set_laws = { λ a. set_option_laws A.is_known (λ b. (A.lawful b).own) (λ b. (A.elements b).own) W.set_laws a };
+    ghost set_laws = { λ a. set_option_laws A.is_known (λ b. (A.lawful b).own) W.set_laws a };
 }
 
 /// `SET { P }`, as `Set<(bool, (Optional<i64>, ()))>`.

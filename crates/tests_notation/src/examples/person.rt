@@ -15,10 +15,7 @@ ghost use Rattle.yasna_notation.specs.Parts.{no_parts};
 ghost use Rattle.yasna_notation.specs.Writing.{no_part_written, optional_written, part_written, under_context};
 ghost use Rattle.yasna_notation.specs.contracts.canonical.I64CanonicalNotation.TheImpl.Laws.{written-law as int64_written};
 ghost use Rattle.yasna_notation.specs.contracts.canonical.BoolCanonicalNotation.TheImpl.Laws.{written-law as boolean_written};
-ghost use Rattle.yasna_notation_types.specs.Elements.{in_context};
 ghost use Rattle.yasna_notation_types.specs.SetParts.{no_set_parts, set_lawful, set_writes, set_option, set_part};
-ghost use Rattle.yasna_notation_types.specs.contracts.elements.BoolElements.TheImpl.Laws.{elements-law as boolean_elements};
-ghost use Rattle.yasna_notation_types.specs.contracts.elements.I64Elements.TheImpl.Laws.{elements-law as int64_elements};
 ghost use Rattle.yasna_notation.specs.contracts.simple.I64Notation.TheImpl.Laws.{lawful-law as int64};
 ghost use Rattle.yasna_notation.specs.contracts.simple.BoolNotation.TheImpl.Laws.{lawful-law as boolean};
 
@@ -99,9 +96,8 @@ impl Notation for Person {
     ghost lawful = { λ _. represented_lawful ⟦<Person as Represents<Fields>>⟧.value_of (set_lawful
         (part (boolean refl).own (optional_part refl (in_implicit 0 (omega arith) (boolean refl)).own
         (part (in_implicit 1 (omega arith) (int64 refl)).own no_parts)))
-        (set_part (boolean refl).own (boolean_elements refl).own
-        (set_option (in_implicit 0 (omega arith) (boolean refl)).own (in_context 0 (omega arith) (boolean_elements refl)).own
-        (set_part (in_implicit 1 (omega arith) (int64 refl)).own (in_context 1 (omega arith) (int64_elements refl)).own no_set_parts refl refl) refl refl) refl refl)) };
+        (set_part (boolean refl).own (set_option (in_implicit 0 (omega arith) (boolean refl)).own
+        (set_part (in_implicit 1 (omega arith) (int64 refl)).own no_set_parts refl refl) refl refl) refl refl)) };
 
     ghost non_empty = { λ u m v. element_non_empty _ _ _ _ };
 }
@@ -114,7 +110,6 @@ impl CanonicalNotation for Person {
     ghost written = { λ _. represented_written ⟦<Person as Represents<Fields>>⟧.value_of (set_writes
         (part_written (boolean_written refl).own (optional_written (under_context 0 (omega arith) (boolean_written refl)).own
         (part_written (under_context 1 (omega arith) (int64_written refl)).own no_part_written)))
-        (set_part (boolean refl).own (boolean_elements refl).own
-        (set_option (in_implicit 0 (omega arith) (boolean refl)).own (in_context 0 (omega arith) (boolean_elements refl)).own
-        (set_part (in_implicit 1 (omega arith) (int64 refl)).own (in_context 1 (omega arith) (int64_elements refl)).own no_set_parts refl refl) refl refl) refl refl)) };
+        (set_part (boolean refl).own (set_option (in_implicit 0 (omega arith) (boolean refl)).own
+        (set_part (in_implicit 1 (omega arith) (int64 refl)).own no_set_parts refl refl) refl refl) refl refl)) };
 }

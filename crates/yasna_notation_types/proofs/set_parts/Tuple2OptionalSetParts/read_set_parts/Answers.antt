@@ -11,13 +11,12 @@ returns-in-Err g c =
     let us = g.W.SetParts.set_tags in
     let known = set_known (tags_precede n.tags us) (share_none n.tags us) g.A.Notation.unambiguous g.W.SetParts.set_unambiguous c.requires in
     let x = known_by_tags g.met.A.SetPart.is_known (g.met.A.Notation.lawful known.first_unambiguous).own in
-    let whole = (g.met.A.Elements.elements known.first_unambiguous).own in
     let y = g.met.W.SetParts.set_laws known.others_unambiguous in
     let set = c.args.set.now in
     let r = c.read_chosen.result in
     let c1 = c.read_chosen.new.set in
     let h = c.read_chosen.ensures in
-    option_wrong x.coding (x.begins refl) whole y known.after known.none_shared set c1 r h c.in-Err.error c.in-Err.is
+    option_wrong x.coding (x.begins refl) x.single y known.after known.none_shared set c1 r h c.in-Err.error c.in-Err.is
 
 pub returns-in-Err-read_set_parts : goal.returns-in-Err-read_set_parts
 returns-in-Err-read_set_parts g c =
@@ -25,7 +24,6 @@ returns-in-Err-read_set_parts g c =
     let us = g.W.SetParts.set_tags in
     let known = set_known (tags_precede n.tags us) (share_none n.tags us) g.A.Notation.unambiguous g.W.SetParts.set_unambiguous c.requires in
     let x = known_by_tags g.met.A.SetPart.is_known (g.met.A.Notation.lawful known.first_unambiguous).own in
-    let whole = (g.met.A.Elements.elements known.first_unambiguous).own in
     let y = g.met.W.SetParts.set_laws known.others_unambiguous in
     let set = c.args.set.now in
     let r = c.read_chosen.result in
@@ -33,7 +31,7 @@ returns-in-Err-read_set_parts g c =
     let h = c.read_chosen.ensures in
     let w = g.W.SetParts.picks in
     let c2 = c.read_set_parts.new.set in
-    option_read x.coding (x.begins refl) whole y known.after known.none_shared set c1 r h c.in-Ok.first c.in-Ok.is (Err c.in-Err-read_set_parts.error) c2
+    option_read x.coding (x.begins refl) x.single y known.after known.none_shared set c1 r h c.in-Ok.first c.in-Ok.is (Err c.in-Err-read_set_parts.error) c2
     (subst (λ z. ReadsSetParts w c1 z c2) c.in-Err-read_set_parts.is c.read_set_parts.ensures)
 
 pub returns : goal.returns
@@ -42,7 +40,6 @@ returns g c =
     let us = g.W.SetParts.set_tags in
     let known = set_known (tags_precede n.tags us) (share_none n.tags us) g.A.Notation.unambiguous g.W.SetParts.set_unambiguous c.requires in
     let x = known_by_tags g.met.A.SetPart.is_known (g.met.A.Notation.lawful known.first_unambiguous).own in
-    let whole = (g.met.A.Elements.elements known.first_unambiguous).own in
     let y = g.met.W.SetParts.set_laws known.others_unambiguous in
     let set = c.args.set.now in
     let r = c.read_chosen.result in
@@ -50,5 +47,5 @@ returns g c =
     let h = c.read_chosen.ensures in
     let w = g.W.SetParts.picks in
     let c2 = c.read_set_parts.new.set in
-    option_read x.coding (x.begins refl) whole y known.after known.none_shared set c1 r h c.in-Ok.first c.in-Ok.is (Ok c.in-Ok-read_set_parts.others) c2
+    option_read x.coding (x.begins refl) x.single y known.after known.none_shared set c1 r h c.in-Ok.first c.in-Ok.is (Ok c.in-Ok-read_set_parts.others) c2
     (subst (λ z. ReadsSetParts w c1 z c2) c.in-Ok-read_set_parts.is c.read_set_parts.ensures)

@@ -1,45 +1,34 @@
--- Types each of whose encodings is one element (X.690, 8.1.1): the elements of a SET are found before they are read.
-use Rattle.std.proofs.Common.{◌≡◌, ◌∷◌, ◌++◌, [], ◌<◌, ◌^◌, ◌&&◌, ℕ, zero, suc, List, Bool, true, false, Option, Some, None, inl, inr, refl, sym, ap, ◌∙◌, append-nil, arith}
-use Rattle.std.proofs.lemmas.Bool.{and_parts}
+-- Types each of whose encodings is one element (X.690, 8.1.1), and contents that are elements: those of a SET are found before they are read.
+use Rattle.std.proofs.Common.{◌≡◌, ◌∷◌, ◌++◌, [], ◌<◌, ◌^◌, ℕ, zero, suc, List, inl, inr, refl, sym, ap, ◌∙◌, append-nil, arith}
 use Rattle.std.specs.List.{concat}
 use Rattle.yasna_base.specs.declared.mode.BERMode.{BERMode}
 use Rattle.yasna_base.specs.declared.mode.BERMode.TheVariants.{Ber, Der, Cer}
 use Rattle.yasna_base.specs.declared.tag.PCBit.TheVariants.{Primitive, Constructed}
 use Rattle.yasna_base.specs.declared.tag.Tag.{Tag}
+use Rattle.yasna_base.specs.Bits.{IsBits, bits_segmentation}
+use Rattle.yasna_base.specs.Choice.{AnyEither}
 use Rattle.yasna_base.specs.Coding.{Any}
 use Rattle.yasna_base.specs.Digits.{IsBytes}
 use Rattle.yasna_base.specs.Element.{Primitively, AnyEnclosed, Element, Framed, definite, indefinite, TakesIndefinite, end_of_contents}
-use Rattle.yasna_base.specs.Choice.{AnyEither}
-use Rattle.yasna_base.specs.Grammar.{Grammar, Members}
-use Rattle.yasna_base.specs.Identifier.{AnyTag, context, end_tag, tag_or}
+use Rattle.yasna_base.specs.Grammar.{Members}
+use Rattle.yasna_base.specs.Identifier.{AnyTag, end_tag}
+use Rattle.yasna_base.specs.Octets.{IsOctets, octets_segmentation}
 use Rattle.yasna_base.specs.Optional.{AnyOption}
 use Rattle.yasna_base.specs.Pieces.{Each}
+use Rattle.yasna_base.specs.Raw.{RawValue, IsRaw, IsJoining, DescendsInto, RawFramed, with_length, with_zeros}
 use Rattle.yasna_base.specs.Segmented.{Segmentation, Segmented, IsSegmented, MaySegment, segment_mode, whole, in_segments}
 use Rattle.yasna_base.specs.Sequence.{AnyPart, AnyNothing}
 use Rattle.yasna_base.specs.SequenceOf.{AnyElements}
-use Rattle.yasna_base.specs.Raw.{RawValue, IsRaw, IsJoining, DescendsInto, RawFramed, with_length, with_zeros}
+use Rattle.yasna_base.specs.Set.{AnySetOfElements}
+use Rattle.yasna_base.specs.Text.{IsStringOf}
 use Rattle.yasna_base.proofs.Digits.{bytes_append}
-use Rattle.yasna_base.proofs.ExplicitTags.{context_not_end}
+use Rattle.yasna_base.proofs.Identifier.{not_end}
 use Rattle.yasna_base.proofs.Raw.{raw_of}
 use Rattle.yasna_base.proofs.Segmented.{segmented_zero, segmented_into}
-use Rattle.yasna_notation.specs.Parts.{all_known, is_known}
-use Rattle.yasna_notation_types.specs.SetParts.{AreSingleElements}
 
--- each encoding is one element, under the type's own tag and under those that may be in place of it
-pub record AreElementsAs (retagged : Bool) (S : Option Tag → Members) : Type 0 where
-  pub own : AreSingleElements (S None)
-  pub others : retagged ≡ true → AnyTag (λ t. AreSingleElements (S (Some t)))
-
-pub elements_lawful : (own : Tag) (S : Tag → Members) → AnyTag (λ t. AreSingleElements (S t)) → (own ≡ end_tag → ⊥) → own.tag_number < 2 ^ 64 →
-    AreElementsAs true (λ u. S (tag_or u own))
-elements_lawful own S all not_end range = record { own = all own not_end range; others = λ e. all }
-
--- another tag in place of the type's own
-pub implicit_elements : {unambiguous retagged : Bool} {S : Option Tag → Members} (own : Tag) → (unambiguous ≡ true → AreElementsAs retagged S) →
-    retagged && unambiguous ≡ true → (own ≡ end_tag → ⊥) → own.tag_number < 2 ^ 64 → AreElementsAs true (λ u. S (Some (tag_or u own)))
-implicit_elements {unambiguous} {retagged} {S} own lawful all =
-    let x = and_parts retagged unambiguous all in
-    elements_lawful own (λ t. S (Some t)) ((lawful x.1).others x.0)
+-- each encoding is one element
+abbrev pub AreSingleElements : Members → Type 0
+AreSingleElements S = (m : BERMode) (n : ℕ) (b : List ℕ) → S m n b → (v : RawValue) × IsRaw m n v b
 
 no_descent : (m : BERMode) → DescendsInto m Primitive → ⊥
 no_descent Ber l = l
@@ -101,10 +90,6 @@ one_joined x m n c p =
 -- an EXPLICIT tag
 pub explicit_elements : {S : Members} → AreSingleElements S → AnyTag (λ t. AreSingleElements (AnyEnclosed S t))
 explicit_elements {S} x = enclosed_elements S (one_joined x)
-
--- under [k] IMPLICIT
-pub in_context : {S : Option Tag → Members} (k : ℕ) → k < 2 ^ 64 → AreElementsAs true S → AreElementsAs true (λ u. S (Some (tag_or u (context k))))
-in_context k range x = implicit_elements {unambiguous = true} {retagged = true} (context k) (λ _. x) refl (context_not_end k) range
 
 -- strings, whole or in segments
 module _ {A : Type 0} (k : Segmentation A) (other : k.segment ≡ end_tag → ⊥) (in_range : k.segment.tag_number < 2 ^ 64) where
@@ -187,6 +172,15 @@ module _ {A : Type 0} (k : Segmentation A) (other : k.segment ≡ end_tag → �
   pub segmented_elements : AnyTag (λ t. AreSingleElements (Any (IsSegmented k t)))
   segmented_elements t not_end range m n b p = string_raw n m t not_end range p.0 b p.1
 
+pub octets_elements : AnyTag (λ t. AreSingleElements (Any (IsOctets t)))
+octets_elements = segmented_elements octets_segmentation (not_end 4 (λ e. omega arith)) (omega arith)
+
+pub bits_elements : AnyTag (λ t. AreSingleElements (Any (IsBits t)))
+bits_elements = segmented_elements bits_segmentation (not_end 3 (λ e. omega arith)) (omega arith)
+
+pub string_elements : {A : Type 0} (K : BERMode → A → List ℕ → Type 0) → AnyTag (λ t. AreSingleElements (Any (IsStringOf K t)))
+string_elements K t other range m n b p = octets_elements t other range m n b (p.1.octets, p.1.string)
+
 -- contents that are elements, one after the other
 abbrev pub AreJoined : Members → Type 0
 AreJoined Q = (m : BERMode) (n : ℕ) (c : List ℕ) → Q m n c → IsJoining (IsRaw m n) c
@@ -217,37 +211,10 @@ elements_joined {S} x m n c p = let w = all p.0 p.1.pieces p.1.each in (w.0, rec
     all (u ∷ us) [] e = absurd e
     all (u ∷ us) (b ∷ bs) e = let v = x m n b e.0 in let ws = all us bs e.1 in (v.0 ∷ ws.0, (v.1, ws.1))
 
--- each of fewer encodings is one element
-pub fewer_elements : {A : Type 0} {B C : Grammar A} → ((m : BERMode) (n : ℕ) (v : A) (b : List ℕ) → C m n v b → B m n v b) → AreSingleElements (Any B) →
-    AreSingleElements (Any C)
-fewer_elements f x m n b p = x m n b (p.0, f m n p.0 b p.1)
+pub set_of_joined : {S : Members} → AreSingleElements S → AreJoined (AnySetOfElements S)
+set_of_joined x m n c p = elements_joined x m n c (p.0, p.1.elements)
 
 -- each encoding of either is one element
 pub either_elements : {S Q : Members} → AreSingleElements S → AreSingleElements Q → AreSingleElements (AnyEither S Q)
 either_elements x y m n b (inl p) = x m n b p
 either_elements x y m n b (inr p) = y m n b p
-
--- parts that are unambiguous by their tags
-pub part_joins : {S Q : Members} {a b : Bool} → (a ≡ true → AreSingleElements S) → (b ≡ true → AreJoined Q) → a && b ≡ true → AreJoined (AnyPart S Q)
-part_joins {a = a} {b = b} x y e = let z = and_parts a b e in part_joined (x z.0) (y z.1)
-
-pub option_joins : {S Q : Members} {a b : Bool} (tags_known others none : Bool) → (a ≡ true → AreSingleElements S) → (b ≡ true → AreJoined Q) →
-    all_known tags_known others none (a && b) ≡ true → AreJoined (AnyPart (AnyOption S) Q)
-option_joins {a = a} {b = b} tags_known others none x y e =
-    let z = and_parts a b (is_known tags_known others none (a && b) e).all_unambiguous in
-    option_joined (x z.0) (y z.1)
-
--- the last type of a CHOICE
-pub last_element : {S : Members} {a : Bool} (tags_known : Bool) → (a ≡ true → AreSingleElements S) → tags_known && a ≡ true → AreSingleElements S
-last_element {a = a} tags_known x e = x (and_parts tags_known a e).1
-
--- a type of a CHOICE, and others by other tags
-pub either_element : {S Q : Members} {a b : Bool} (tags_known none : Bool) → (a ≡ true → AreSingleElements S) → (b ≡ true → AreSingleElements Q) →
-    tags_known && (none && (a && b)) ≡ true → AreSingleElements (AnyEither S Q)
-either_element {a = a} {b = b} tags_known none x y e =
-    let z = and_parts a b (and_parts none (a && b) (and_parts tags_known (none && (a && b)) e).1).1 in
-    either_elements (x z.0) (y z.1)
-
--- a CHOICE: no tag may be in place of those of its types
-pub choice_elements : {S : Members} → AreSingleElements S → AreElementsAs false (λ u. S)
-choice_elements x = record { own = x; others = λ e. absurd (cc) }
