@@ -46,7 +46,7 @@ Code ::= SEQUENCE {
 END
 """
 WIDE = """Wide DEFINITIONS ::= BEGIN
-Badge ::= SET { number INTEGER, flag BOOLEAN }
+Badge ::= SET { number INTEGER, flag BOOLEAN, ... }
 Shape ::= CHOICE { size INTEGER, ... }
 Box ::= SEQUENCE { shape Shape OPTIONAL, label UTF8String }
 Head ::= SEQUENCE { id NULL, ..., ..., name UTF8String }
@@ -58,6 +58,28 @@ Label ::= SEQUENCE { kind OBJECT IDENTIFIER DEFAULT id-box, key [0] OCTET STRING
 Open ::= SEQUENCE { size INTEGER, text UTF8String DEFAULT "box", ... }
 END
 """
+# The record of X.690, A.1, and SETs of each kind of part: those of AUTOMATIC TAGS, of COMPONENTS OF, within another type, and a CHOICE.
+SETS = """Sets DEFINITIONS ::= BEGIN
+PersonnelRecord ::= [APPLICATION 0] IMPLICIT SET {
+    name Name, title [0] VisibleString, number EmployeeNumber, dateOfHire [1] Date, nameOfSpouse [2] Name,
+    children [3] IMPLICIT SEQUENCE OF ChildInformation DEFAULT {} }
+ChildInformation ::= SET { name Name, dateOfBirth [0] Date }
+Name ::= [APPLICATION 1] IMPLICIT SEQUENCE { givenName VisibleString, initial VisibleString, familyName VisibleString }
+EmployeeNumber ::= [APPLICATION 2] IMPLICIT INTEGER
+Date ::= [APPLICATION 3] IMPLICIT VisibleString
+Pick ::= CHOICE { first [1] NULL, second [2] BOOLEAN }
+Kind ::= ENUMERATED { plain, other }
+Mixed ::= SET { pick Pick, kind Kind DEFAULT other, flag BOOLEAN DEFAULT FALSE, level [0] IMPLICIT INTEGER (0..9) OPTIONAL, COMPONENTS OF Extra }
+Extra ::= SET { text UTF8String OPTIONAL, octets OCTET STRING }
+Inside ::= SEQUENCE { place SET { x [1] INTEGER, y [0] INTEGER } }
+Around ::= SET { outer CHOICE { a [0] NULL, b [2] NULL }, inner [1] NULL }
+Element ::= SET { element ANY }
+END
+"""
+AUTOMATIC = """Automatic DEFINITIONS AUTOMATIC TAGS ::= BEGIN
+Report ::= SET { text UTF8String, flags SET OF BOOLEAN OPTIONAL, choice CHOICE { a NULL, b BOOLEAN } }
+END
+"""
 # What is listed of their types.
 FLAGS = "Flags: exact, canonical\n"
 ALONE = "Alone: exact, canonical\n"
@@ -65,11 +87,39 @@ REPORT = "Report: exact, canonical\n"
 BOX = "Box: exact, canonical\n"
 KNOWN = "Known: exact, canonical\n"
 CODE = "Code: accepts more, canonical\n"
-BADGE = "Badge: accepts more: the components of a SET aren't read\n"
+BADGE = "Badge: accepts more: the components of a SET with `...` aren't read\n"
 CLOSED = "Shape: rejects additions, canonical\nBox: exact, canonical\n"
 HEAD = "Head: rejects additions, canonical\n"
 LABEL = "Label: exact, canonical\n"
 OPEN = "Open: accepts more\n"
+SETS_LISTED = """Name: exact, canonical
+ChildInformation: exact, canonical
+PersonnelRecord: accepts more, canonical
+Pick: exact, canonical
+Kind: exact, canonical
+Mixed: exact, canonical
+Extra: exact, canonical
+Inside.place: exact, canonical
+Inside: exact, canonical
+Around.outer: exact, canonical
+Around: accepts more: the components of a SET with a CHOICE whose tags are around that of another part aren't read
+Element: accepts more: the components of a SET with a part that may be any element aren't read
+"""
+REPORT_LISTED = "Report.choice: exact, canonical\nReport: exact, canonical\n"
+# The notations of the parts of a SET.
+MIXED = """type Parts = (Default<Implicit<Universal<1>, bool>, Unset>, (Implicit<Universal<4>, Vec<u8>>, (Default<Implicit<Universal<10>, Named<Kind>>, \
+KindDefault>, (Optional<Implicit<Universal<12>, String>>, MixedParts2))));
+"""
+MIXED_REST = """type Each = (Optional<Implicit<Context<0>, Bounded<u64, AtMost<9>>>>, (Pick, ()));
+"""
+REPORT_PARTS = """type Parts = (Implicit<Context<0>, String>, (Optional<Implicit<Context<1>, SetOf<bool>>>, (Explicit<Context<2>, ReportChoice>, ())));
+"""
+PICKED = """impl SetPart for Pick {
+    fn read_chosen(set: &mut BERReaderSet) -> ASN1Result<Option<Pick>> {
+        read_part::<Pick>(&[Tag { tag_class: TagClass::ContextSpecific, tag_number: 1 }, \
+Tag { tag_class: TagClass::ContextSpecific, tag_number: 2 }], set)
+    }
+"""
 # The parts of a SEQUENCE with such defaults.
 PARTS = """type Parts = OrDefault<ObjectIdentifier, TestedIdentifier<KindDefault>, OrDefault<Implicit<Context<0>, Vec<u8>>, \
 TestedOctets<KeyDefault>, OrDefault<String, TestedText<TextDefault>, ()>>>;
@@ -79,8 +129,8 @@ IS_LOOSE = """loose.asn1:4:26: the contents of a string aren't read
         octets OCTET STRING (CONTAINING Known) }
                              ^
 """
-IS_SET = """wide.asn1:2:1: the components of a SET aren't read
-    Badge ::= SET { number INTEGER, flag BOOLEAN }
+IS_SET = """wide.asn1:2:1: the components of a SET with `...` aren't read
+    Badge ::= SET { number INTEGER, flag BOOLEAN, ... }
     ^
 """
 IS_UNTESTED = """defaults.asn1:4:35: a part with a default may be encoded though it is the default
@@ -119,6 +169,8 @@ MODULES = {
     "unknown": UNKNOWN,
     "wide": WIDE,
     "defaults": DEFAULTS,
+    "sets": SETS,
+    "automatic": AUTOMATIC,
 }
 
 
@@ -142,6 +194,8 @@ def ends(folder):
     yield "another type", run(folder, "--list", "--strict", "--type", "Known", "loose.asn1"), (0, KNOWN, "")
     yield "a SET, and additions that are rejected", run(folder, "--list", "wide.asn1"), (0, f"{BADGE}{CLOSED}{HEAD}", "")
     yield "a SET with --strict", run(folder, "--list", "--strict", "wide.asn1"), (1, f"{BADGE}{CLOSED}{HEAD}", IS_SET)
+    yield "SETs", run(folder, "--list", "sets.asn1"), (0, SETS_LISTED, "")
+    yield "a SET whose parts are tagged automatically", run(folder, "--list", "--strict", "automatic.asn1"), (0, REPORT_LISTED, "")
     yield "additions with --strict", run(folder, "--list", "--strict", "--type", "Box", "--type", "Head", "wide.asn1"), (0, f"{CLOSED}{HEAD}", "")
     yield "defaults", run(folder, "--list", "--strict", "defaults.asn1"), (1, f"{LABEL}{OPEN}", IS_UNTESTED)
     yield "what isn't ASN.1", run(folder, "--list", "malformed.asn1"), (1, "", IS_MALFORMED)
@@ -166,6 +220,11 @@ def crates(folder):
     yield "a list that is malformed", run(folder, "--list", "--use", "some", "third.asn1"), (1, "", IS_NO_LIST)
     yield "a crate with defaults", run(folder, "--crate", "labels", "--type", "Label", "--strict", "defaults.asn1")[0], 0
     yield "its parts", PARTS in (out / "labels/src/label.rt").read_text(), True
+    yield "a crate with SETs", run(folder, "--crate", "sets", "--tests", "sets.asn1", "automatic.asn1")[0], 0
+    yield "the parts of a SET", MIXED in (out / "sets/src/mixed.rt").read_text(), True
+    yield "those that follow", MIXED_REST in (out / "sets/src/mixed_parts2.rt").read_text(), True
+    yield "the parts of one that are tagged automatically", REPORT_PARTS in (out / "sets/src/report.rt").read_text(), True
+    yield "a CHOICE in a SET", PICKED in (out / "sets/src/pick.rt").read_text(), True
     yield "what is rejected with --strict", run(folder, "--crate", "none", "--strict", "loose.asn1")[0], 1
     yield "no file of it", written(out / "none"), []
 

@@ -18,7 +18,7 @@
 
 use crate::terms::{Aspect, TypeNames, put_notation};
 use crate::text::Text;
-use asn1_types::model::{Alternative, Notation, TagClass};
+use asn1_types::model::{Alternative, Notation, TagClass, TagLayer};
 
 /// How alternatives are listed in some place.
 pub struct Choices {
@@ -299,6 +299,15 @@ fn put_waiting_tag(notation: &Notation, out: &mut Text) {
             put_tag("universal", *number, out);
         }
         _ => {}
+    }
+}
+
+/// Appends the implicit tag that waits at a type within these tags, the outermost first, where `u` waits outside of them.
+pub fn put_waiting_tags(tags: &[TagLayer], out: &mut Text) {
+    out.repeat("(Some (tag_or ", tags.len());
+    out.say("u");
+    for layer in tags {
+        put_tag(class_word(layer.class), layer.number, out);
     }
 }
 

@@ -2,23 +2,46 @@
 
 use crate::canonical::is_body_canonical;
 use crate::constants::add_constants;
-use crate::differences::{Difference, SET_TEXT, differences_of, is_set, rejects_additions};
+use crate::differences::{Difference, differences_of, rejects_additions};
 use crate::exports::exports_of;
 use crate::head::put_path;
 use crate::imports::Words;
 use crate::naming::UsedNames;
 use crate::open_choices::open_choices;
 use crate::order::Order;
-use crate::terms::{TypeName, TypeNames};
+use crate::sets::{mark_choices, unread};
+use crate::terms::{TypeName, TypeNames, own_tag};
 use crate::text::Text;
 use crate::type_source::{CrateSource, Files, SourceFile, add_definition, has_file};
-use asn1_types::model::Definition;
+use asn1_types::TagSet;
+use asn1_types::model::{Definition, Tag};
 use std::alloc::{AllocError, Global};
 
-/// The names of definitions, and which of them are canonical.
+// The tag of its own of the definition at a place.
+fn tag_at(tag_sets: &[TagSet], place: usize) -> Option<Tag> {
+    let set = tag_sets.get(place)?;
+    own_tag(set.tags.as_slice(), set.is_untagged || set.is_any)
+}
+
+// The tags of the CHOICE at a place, if it has none of its own and no other tag begins an encoding of it.
+fn choice_tags_at(
+    alloc: Global,
+    tag_sets: &[TagSet],
+    place: usize,
+) -> Result<Vec<Tag>, AllocError> {
+    match tag_sets.get(place) {
+        Some(set) if set.is_untagged && !set.is_any => {
+            Vec::from_slice(alloc, set.tags.as_slice())
+        }
+        _ => Ok(Vec::new(alloc)),
+    }
+}
+
+/// The names of definitions, what tags they have, and which of them are canonical.
 pub fn names_of(
     alloc: Global,
     definitions: &[Definition<'_>],
+    tag_sets: &[TagSet],
     imported: Vec<TypeName>,
 ) -> Result<TypeNames, AllocError> {
     let mut used = UsedNames::new(alloc);
@@ -34,7 +57,13 @@ pub fn names_of(
             Some(is_open) => *is_open,
             None => false,
         };
-        name.is_canonical = is_body_canonical(&definition.body, name.is_open, &names);
+        name.own_tag = tag_at(tag_sets, place);
+        name.choice_tags = choice_tags_at(alloc, tag_sets, place)?;
+        name.unread = unread(&definition.body, &names);
+        name.is_canonical = is_body_canonical(&definition.body, &name, &names);
+        if name.unread.is_none() {
+            mark_choices(&definition.body, &mut names);
+        }
         if names.defined.push(name).is_err() {
             return Err(AllocError);
         }
@@ -280,9 +309,9 @@ fn put_judgement(
         (false, false) => ": accepts more",
         (false, true) => ": accepts more, rejects additions",
     });
-    if is_set(body) {
+    if let Some(reason) = name.unread {
         out.say(": ");
-        out.say(SET_TEXT);
+        out.say(reason);
     }
     out.say(if name.is_canonical {
         ", canonical\n"
@@ -303,7 +332,7 @@ pub fn list_of(alloc: Global, source: &CrateSource<'_, '_>) -> Text {
             continue;
         }
         put_path(definition.path.as_slice(), &mut out);
-        match differences_of(alloc, definition) {
+        match differences_of(alloc, definition, name) {
             Ok(all) => put_judgement(definition, all.as_slice(), name, &mut out),
             Err(_) => out.cut(),
         }

@@ -144,11 +144,15 @@ fn is_plain_boolean(notation: &Notation) -> bool {
     }
 }
 
-/// How the default of a notation is written.
-pub fn default_texts(notation: &Notation, value: &DefaultValue<'_>) -> &'static DefaultTexts {
+/// How the default of a notation is written. `is_under`: a tag is written around the notation.
+pub fn default_texts(
+    notation: &Notation,
+    is_under: bool,
+    value: &DefaultValue<'_>,
+) -> &'static DefaultTexts {
     match value {
         DefaultValue::Boolean(true) => &TRUE,
-        DefaultValue::Boolean(false) if is_plain_boolean(notation) => &FALSE,
+        DefaultValue::Boolean(false) if !is_under && is_plain_boolean(notation) => &FALSE,
         DefaultValue::Boolean(false) => &UNSET,
         DefaultValue::Integer(_) if is_natural(notation) => &NATURAL,
         DefaultValue::Integer(_) => &SIGNED,

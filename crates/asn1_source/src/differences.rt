@@ -2,6 +2,7 @@
 
 use crate::defaults::has_tested_default;
 use crate::extension::tail_of;
+use crate::terms::TypeName;
 use asn1_types::model::{Body, Components, Definition, Loosening, Looser, Place};
 use std::alloc::{AllocError, Global};
 
@@ -13,9 +14,6 @@ pub struct Difference {
     /// Why.
     pub text: &'static str,
 }
-
-/// Why a SET accepts more than its module says.
-pub const SET_TEXT: &str = "the components of a SET aren't read";
 
 // Why a type accepts more than its module says.
 fn looser_text(what: Loosening) -> &'static str {
@@ -36,14 +34,6 @@ fn difference_of(looser: Looser) -> Difference {
     Difference {
         place: looser.place,
         text: looser_text(looser.what),
-    }
-}
-
-/// Whether a type is a SET, whose elements are as they came.
-pub fn is_set(body: &Body<'_>) -> bool {
-    match body {
-        Body::Set(_) => true,
-        _ => false,
     }
 }
 
@@ -93,11 +83,11 @@ pub fn inner_differences(
 pub fn differences_of(
     alloc: Global,
     definition: &Definition<'_>,
+    name: &TypeName,
 ) -> Result<Vec<Difference>, AllocError> {
     let mut all = inner_differences(alloc, definition)?;
-    if is_set(&definition.body) {
+    if let Some(text) = name.unread {
         let place = definition.place;
-        let text = SET_TEXT;
         all.push(Difference { place, text })?;
     }
     Ok(all)

@@ -125,14 +125,14 @@ fn steps_of(part: &Part<'_>) -> &'static Steps {
 
 /// Appends the term of the law of the parts from a place on, and of the elements after them.
 pub fn put_tail_law(fields: &Fields<'_, '_>, start: usize, names: &TypeNames, out: &mut Text) {
-    let count = fields.parts.len().saturating_sub(start);
+    let count = fields.count().saturating_sub(start);
     if count == 0 {
         out.say("(rest_laws (any_law refl).own)");
         return;
     }
     let mut terms = others(out);
     for back in 1..count.saturating_add(1) {
-        let place = fields.parts.len().saturating_sub(back);
+        let place = fields.count().saturating_sub(back);
         let Some(field) = fields.at(place) else { break };
         let steps = steps_of(field.part);
         let law = step(steps.law, &field, &terms, names);
@@ -145,7 +145,7 @@ pub fn put_tail_law(fields: &Fields<'_, '_>, start: usize, names: &TypeNames, ou
 
 /// Appends the alias of the parts from a place on: their tags are those of no element after them.
 pub fn put_omitted(fields: &Fields<'_, '_>, start: usize, names: &TypeNames, out: &mut Text) {
-    let count = fields.parts.len();
+    let count = fields.count();
     if start >= count {
         return;
     }

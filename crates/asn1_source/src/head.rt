@@ -1,6 +1,7 @@
 //! The head of a source: the notation of the type, as the module has it.
 
 use crate::differences::{Difference, inner_differences, rejects_additions, rejects_elements};
+use crate::terms::TypeName;
 use crate::text::Text;
 use asn1_syntax::tree::{Assignment, Module};
 use asn1_syntax::{Token, lex};
@@ -114,8 +115,6 @@ fn sequence_text(components: &Components<'_>) -> &'static str {
 // What a type has that its source leaves out.
 fn missing_text(body: &Body<'_>, is_open: bool) -> &'static str {
     match body {
-        Body::Set(_) =>
-            "//!\n//! The components of this SET aren't read: its elements are as they came.\n",
         Body::Sequence(components) => sequence_text(components),
         Body::Choice(_) if rejects_additions(body, is_open) => {
             "//!\n//! An alternative that a later version may add is rejected.\n"
@@ -136,12 +135,21 @@ pub fn put_path(path: &[&[u8]], out: &mut Text) {
     }
 }
 
-/// Appends the head of the source of a type. `is_open`: an alternative that this version doesn't know is a value.
+// Appends why the components of a SET aren't read.
+fn put_unread(name: &TypeName, out: &mut Text) {
+    if let Some(reason) = name.unread {
+        out.say("//!\n//! Its elements are as they came: ");
+        out.say(reason);
+        out.say(".\n");
+    }
+}
+
+/// Appends the head of the source of a type with this name.
 pub fn put_head(
     alloc: Global,
     modules: &[ModuleSource<'_>],
     definition: &Definition<'_>,
-    is_open: bool,
+    name: &TypeName,
     out: &mut Text,
 ) {
     out.say("//! `");
@@ -157,7 +165,8 @@ pub fn put_head(
     out.say(".\n//!\n//! ```text\n");
     put_lines(assignment_text(alloc, *module, definition.assignment), out);
     out.say("//! ```\n");
-    out.say(missing_text(&definition.body, is_open));
+    put_unread(name, out);
+    out.say(missing_text(&definition.body, name.is_open));
     match inner_differences(alloc, definition) {
         Ok(differences) => put_differences(differences.as_slice(), out),
         Err(_) => out.cut(),

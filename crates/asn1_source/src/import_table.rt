@@ -41,6 +41,7 @@ Rattle.yasna_notation_types.specs.OpenChoice: any_lawful open_lawful
 Rattle.yasna_notation_types.specs.Others: other_may others_laws others_within possible possible_default possible_default_begins possible_may
 Rattle.yasna_notation_types.specs.Others: possible_within
 Rattle.yasna_notation_types.specs.Rest: rest_laws
+Rattle.yasna_notation_types.specs.SetParts: no_set_parts set_lawful set_option set_part set_with_default set_writes
 Rattle.yasna_notation.specs.contracts.simple.BoolNotation.TheImpl.Laws: lawful-law=flag_law non_empty-law=flag_non_empty
 Rattle.yasna_notation.specs.contracts.canonical.BoolCanonicalNotation.TheImpl.Laws: written-law=flag_written
 Rattle.yasna_notation.specs.contracts.simple.UnitNotation.TheImpl.Laws: lawful-law=null_law non_empty-law=null_non_empty
@@ -87,7 +88,7 @@ Rattle.yasna_notation_tags.specs.contracts.bmp_string.BmpStringCanonicalNotation
 /// The names in code.
 pub static CODE_IMPORTS: &str = "\
 yasna::models: GeneralizedTime ObjectIdentifier TaggedDerValue UTCTime
-yasna: ASN1Result BERMode BERReader BERReaderSeq DERWriter DERWriterSeq PrependBuffer Tag
+yasna: ASN1Result BERMode BERReader BERReaderSeq BERReaderSet DERWriter DERWriterSeq PrependBuffer Tag TagClass
 yasna_notation::Either: First Second
 yasna_notation: Alternatives Application AtMost BigInteger BitString Bounded CanonicalAlternatives CanonicalNotation CanonicalParts Choice Context Default DefaultValue Either
 yasna_notation: Enumerated Exactly Explicit False FromTo Ia5String Implicit Last Message NotEmpty Notation NumericString Optional
@@ -96,6 +97,7 @@ yasna_notation_constraints: Identifier=TestedIdentifier IdentifierValue IntegerF
 yasna_notation_constraints: OctetsValue OrDefault Signed SizeFrom SizeFromTo SizeIs Text=TestedText TextValue True Unset
 yasna_notation_tags: BmpString Private Universal explicit_fields_len implicit_fields_len prepend_explicit_fields prepend_implicit_fields
 yasna_notation_tags: write_explicit_fields write_implicit_fields
-yasna_notation_types: Named NamedBits Numbered OpenChoice Others Possible PossibleDefault Rest
+yasna_notation_types: Named NamedBits Numbered OpenChoice Others Possible PossibleDefault Rest Set SetPart SetParts
+yasna_notation_types: read_part
 yasna_notation_validity: Checked CheckedBy accepts_fields
 ";

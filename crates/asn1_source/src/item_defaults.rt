@@ -2,10 +2,10 @@
 
 use crate::defaults::untagged;
 use crate::naming::item_names;
-use crate::parts::{Field, Fields, put_default_name};
+use crate::parts::{Field, Fields, put_default_name, put_field_text};
 use crate::template::Fragments;
 use crate::templates::{ITEM_CLAUSES, ITEM_DEFAULT, LIST_CLAUSES};
-use crate::terms::{Aspect, TypeName, put_integer, put_notation};
+use crate::terms::{Aspect, TypeName, put_integer};
 use crate::tested_types::put_tested_types;
 use crate::type_source::CrateSource;
 use asn1_types::model::{Body, DefaultValue, Enumeration, Integer, Notation, Presence};
@@ -75,8 +75,7 @@ fn set_item(
     put_default_name(field.name, &mut own);
     fragments.set(b'X', own);
     let mut notation = fragments.text();
-    let (of, aspect) = (&field.part.notation, Aspect::Notation);
-    put_notation(of, aspect, true, source.names, &mut notation);
+    put_field_text(Aspect::Notation, field, source.names, &mut notation);
     fragments.set(b'B', notation);
     let mut written = fragments.text();
     put_integer(number, &mut written);
@@ -129,7 +128,7 @@ pub fn set_default_types(
 ) -> Result<(), AllocError> {
     let mut types = fragments.text();
     let mut clauses = fragments.text();
-    for place in 0..fields.parts.len() {
+    for place in 0..fields.count() {
         let Some(field) = fields.at(place) else { break };
         if let Some(item) = item_of(alloc, source, &field)? {
             item.fill(ITEM_DEFAULT, &mut types);

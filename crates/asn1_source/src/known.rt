@@ -1,7 +1,7 @@
 //! The types of other crates that modules import.
 
 use crate::exports::Export;
-use crate::terms::TypeName;
+use crate::terms::{TypeName, own_tag};
 use asn1_types::model::KnownType;
 use std::alloc::{AllocError, Global};
 
@@ -42,6 +42,10 @@ fn name_of(alloc: Global, export: &Export<'_>) -> Result<TypeName, AllocError> {
         tags: Vec::new(alloc),
         is_canonical: export.is_canonical,
         is_open: export.is_open,
+        own_tag: own_tag(export.tags.as_slice(), export.is_untagged),
+        choice_tags: Vec::new(alloc),
+        is_set_part: false,
+        unread: None,
     })
 }
 

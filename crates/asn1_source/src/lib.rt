@@ -27,6 +27,7 @@ mod reach;
 mod sample_octets;
 mod samples;
 mod sequence_source;
+mod sets;
 mod shapes;
 mod template;
 mod templates;

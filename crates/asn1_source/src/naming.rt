@@ -53,14 +53,22 @@ fn file_text(alloc: Global, path: &[&[u8]]) -> Text {
     text
 }
 
-// What the names of laws of the library's types begin with.
-static LAW_NAMES: [&str; 22] = [
+// What the names of laws of the library begin with.
+static LAW_NAMES: [&str; 40] = [
+    "alternative",
     "any",
+    "at_most",
     "big",
     "bits",
     "bmp",
+    "bound",
+    "bounded",
     "constants",
+    "default",
+    "detects",
+    "element",
     "enumerated",
+    "explicit",
     "flag",
     "general",
     "ia5",
@@ -68,13 +76,23 @@ static LAW_NAMES: [&str; 22] = [
     "int64",
     "named",
     "named_bits",
+    "no",
+    "no_part",
     "null",
     "number",
     "number32",
     "numeric",
     "octets",
     "oid",
+    "optional",
+    "part",
     "printable",
+    "raw",
+    "represented",
+    "same",
+    "sequence",
+    "sequence_of",
+    "set_of",
     "text",
     "utc",
 ];
@@ -141,6 +159,10 @@ impl UsedNames {
             tags,
             is_canonical: false,
             is_open: false,
+            own_tag: None,
+            choice_tags: Vec::new(self.alloc),
+            is_set_part: false,
+            unread: None,
         })
     }
 }

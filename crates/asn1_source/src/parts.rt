@@ -1,4 +1,4 @@
-//! The parts of a SEQUENCE, in each place where a source lists them.
+//! The parts of a SEQUENCE or a SET, in each place where a source lists them.
 //!
 //! | Mark | Represents |
 //! |---|---|
@@ -13,10 +13,11 @@
 
 use crate::defaults::{default_shape, default_texts, has_tested_default, untagged};
 use crate::extension::put_tail_law;
-use crate::terms::{Aspect, TypeNames, put_notation, put_shaped};
+use crate::sets::Listed;
+use crate::terms::{Aspect, TypeNames, put_notation, put_shaped, put_under};
 use crate::text::Text;
 use crate::words::put_camel;
-use asn1_types::model::{DefaultValue, Notation, Part, Presence};
+use asn1_types::model::{DefaultValue, Notation, Part, Presence, TagLayer};
 
 /// How parts are listed in some place.
 pub struct Listing {
@@ -206,6 +207,21 @@ pub static WRITTEN: Listing = Listing {
     rest: ["", ""],
 };
 
+/// The term of the law of a SET, of the parts in the order of their tags.
+pub static SET_LAW: Listing = Listing {
+    required: "(set_part @L.own ",
+    optional: "(set_option @L.own ",
+    default: "(set_with_default @I @E @T @L.own ",
+    last: "",
+    end: "no_set_parts",
+    close: " refl refl)",
+    tested: ["", ""],
+    possible: "",
+    possible_default: "",
+    possible_close: "",
+    rest: ["", ""],
+};
+
 /// Whether a part is any element, and OPTIONAL.
 pub fn is_last(part: &Part<'_>) -> bool {
     matches!(&part.notation, Notation::Any) && is_optional(part)
@@ -227,54 +243,67 @@ pub struct Field<'p, 'a> {
     pub part: &'p Part<'a>,
     /// The name of the field.
     pub name: &'p [u8],
+    /// The tag that is written around its notation, though it is its own.
+    pub under: Option<TagLayer>,
+    /// Whether it is a part of a SET.
+    pub in_set: bool,
 }
 
-/// Parts of a SEQUENCE, and the names of their fields.
+/// Parts of a SEQUENCE or a SET, and the names of their fields.
 #[derive(Clone, Copy)]
 pub struct Fields<'p, 'a> {
     /// The parts.
     pub parts: &'p [Part<'a>],
     /// The names of their fields, and after them that of the field of the elements that this version doesn't know.
     pub names: &'p [Vec<u8>],
+    /// Which parts these are, in the order of their notations.
+    pub order: &'p [Listed],
+    /// Those of the whole, in the order of the module.
+    pub declared: &'p [Listed],
     /// The place of the first part after the mandatory ones, if elements that this version doesn't know are after all parts.
     pub tail: Option<usize>,
     /// Whether a tag is around them in their file.
     pub is_tagged: bool,
-}
-
-/// These parts.
-pub fn fields_of<'p, 'a>(
-    parts: &'p [Part<'a>],
-    names: &'p [Vec<u8>],
-    tail: Option<usize>,
-    is_tagged: bool,
-) -> Fields<'p, 'a> {
-    Fields {
-        parts,
-        names,
-        tail,
-        is_tagged,
-    }
+    /// Whether they are those of a SET.
+    pub is_set: bool,
 }
 
 impl<'p, 'a> Fields<'p, 'a> {
+    /// How many there are.
+    pub fn count(&self) -> usize {
+        self.order.len()
+    }
+
     /// The part at a place.
     pub fn at(&self, place: usize) -> Option<Field<'p, 'a>> {
-        match (self.parts.get(place), self.names.get(place)) {
+        let listed = self.order.get(place)?;
+        match (self.parts.get(listed.place), self.names.get(listed.place)) {
             (Some(part), Some(name)) => Some(Field {
                 part,
                 name: name.as_slice(),
+                under: listed.under,
+                in_set: self.is_set,
             }),
             _ => None,
         }
     }
 
+    /// The parts of the whole in the order of the module.
+    pub fn in_module(&self) -> Fields<'p, 'a> {
+        Fields {
+            order: self.declared,
+            ..*self
+        }
+    }
+
     /// The first of these parts.
     pub fn first(&self, count: usize) -> Fields<'p, 'a> {
-        match self.parts.get(..count) {
-            Some(parts) if count < self.parts.len() => {
-                fields_of(parts, self.names, None, self.is_tagged)
-            }
+        match self.order.get(..count) {
+            Some(order) if count < self.order.len() => Fields {
+                order,
+                tail: None,
+                ..*self
+            },
             _ => *self,
         }
     }
@@ -285,11 +314,14 @@ impl<'p, 'a> Fields<'p, 'a> {
             Some(place) => Some(place.saturating_sub(start)),
             None => None,
         };
-        match (self.parts.get(start..), self.names.get(start..)) {
-            (Some(parts), Some(names)) => {
-                fields_of(parts, names, tail, self.is_tagged && start == 0)
-            }
-            _ => *self,
+        match self.order.get(start..) {
+            Some(order) => Fields {
+                order,
+                tail,
+                is_tagged: self.is_tagged && start == 0,
+                ..*self
+            },
+            None => *self,
         }
     }
 
@@ -319,10 +351,15 @@ fn listed_at_end(listing: &'static Listing, part: &Part<'_>) -> &'static str {
     }
 }
 
-// How another part is listed, and what closes it.
-fn listed(listing: &'static Listing, part: &Part<'_>) -> [&'static str; 2] {
+// How another part is listed, and what closes it. A default that is tested elsewhere is none in a SET.
+fn listed(listing: &'static Listing, field: &Field<'_, '_>) -> [&'static str; 2] {
+    let part = field.part;
     if has_tested_default(part) {
-        return listing.tested;
+        return if field.in_set {
+            [listing.optional, listing.close]
+        } else {
+            listing.tested
+        };
     }
     if is_last(part) {
         return [listing.last, ""];
@@ -377,7 +414,7 @@ fn put_default_text(
 fn put_same(text: &str, field: &Field<'_, '_>, names: &TypeNames, out: &mut Text) {
     match text.split_once("@L") {
         Some((_, after)) => {
-            put_notation(&field.part.notation, Aspect::Law, true, names, out);
+            put_field_text(Aspect::Law, field, names, out);
             out.say(after);
         }
         None => out.say(text),
@@ -389,7 +426,7 @@ fn put_default(mark: u8, field: &Field<'_, '_>, names: &TypeNames, out: &mut Tex
     let Presence::Default(value) = &field.part.presence else {
         return;
     };
-    let texts = default_texts(&field.part.notation, value);
+    let texts = default_texts(&field.part.notation, field.under.is_some(), value);
     match mark {
         b'D' => put_default_text(texts.name, field, value, names, out),
         b'I' => put_default_text(texts.test, field, value, names, out),
@@ -399,15 +436,27 @@ fn put_default(mark: u8, field: &Field<'_, '_>, names: &TypeNames, out: &mut Tex
     }
 }
 
+/// Appends a text of the notation of a part, under the tag that is written around it.
+pub fn put_field_text(aspect: Aspect, field: &Field<'_, '_>, names: &TypeNames, out: &mut Text) {
+    let mut inner = out.another();
+    let part = field.part;
+    put_notation(&part.notation, aspect, has_default(part), names, &mut inner);
+    match &field.under {
+        Some(layer) => put_under(&[*layer], aspect, inner.as_slice(), out),
+        None => out.put(inner.as_slice()),
+    }
+    if inner.is_cut() {
+        out.cut();
+    }
+}
+
 /// Appends what a mark of a part represents.
 pub fn put_mark(mark: u8, field: &Field<'_, '_>, names: &TypeNames, out: &mut Text) {
-    let part = field.part;
-    let is_default = has_default(part);
     match mark {
-        b'N' => put_notation(&part.notation, Aspect::Notation, is_default, names, out),
-        b'V' => put_notation(&part.notation, Aspect::Value, is_default, names, out),
-        b'L' => put_notation(&part.notation, Aspect::Law, is_default, names, out),
-        b'W' => put_notation(&part.notation, Aspect::Written, is_default, names, out),
+        b'N' => put_field_text(Aspect::Notation, field, names, out),
+        b'V' => put_field_text(Aspect::Value, field, names, out),
+        b'L' => put_field_text(Aspect::Law, field, names, out),
+        b'W' => put_field_text(Aspect::Written, field, names, out),
         b'f' => out.put(field.name),
         _ => put_default(mark, field, names, out),
     }
@@ -452,8 +501,8 @@ fn put_tail(
         put_tail_law(fields, start, names, out);
         return;
     }
-    let count = fields.parts.len().saturating_sub(start);
-    for place in start..fields.parts.len() {
+    let count = fields.count().saturating_sub(start);
+    for place in start..fields.count() {
         let Some(field) = fields.at(place) else { break };
         put_part(listed_at_end(listing, field.part), &field, names, out);
     }
@@ -478,7 +527,7 @@ fn put_closers(
         let Some(field) = fields.at(count - 1 - back) else {
             continue
         };
-        let [_, close] = listed(listing, field.part);
+        let [_, close] = listed(listing, &field);
         put_part(close, &field, names, out);
     }
 }
@@ -493,12 +542,12 @@ pub fn put_parts(
 ) {
     let count = match fields.tail {
         Some(start) => start,
-        None => fields.parts.len(),
+        None => fields.count(),
     };
     let mut is_ended = false;
     for place in 0..count {
         let Some(field) = fields.at(place) else { break };
-        let [open, _] = listed(listing, field.part);
+        let [open, _] = listed(listing, &field);
         put_part(open, &field, names, out);
         is_ended = is_ended || is_last(field.part);
     }

@@ -5,10 +5,10 @@ use crate::open_choices::may_be_absent;
 use crate::parts::{Fields, HELD};
 use crate::sequence_source::{RestName, first_of, set_all, set_references, set_run_texts};
 use crate::template::Fragments;
-use crate::templates::{CANONICAL_PARTS_IMPL, PARTS_IMPLS};
+use crate::templates::{CANONICAL_PARTS_IMPL, PARTS_IMPLS, SET_PARTS_IMPL};
 use crate::terms::TypeName;
 use crate::text::Text;
-use crate::type_source::{CrateSource, Files, put_source, rest_clauses, rest_code};
+use crate::type_source::{CrateSource, Files, put_source, rest_clauses, rest_code, set_clauses};
 use std::alloc::{AllocError, Global};
 
 // The most parts of one file, and the most among them that may be absent.
@@ -27,18 +27,16 @@ fn fits(count: usize, absent: usize, is_tagged: bool) -> bool {
 
 /// How many of these parts one file holds. Those at the end of an extensible SEQUENCE that may be absent are in one file.
 pub fn first_run(fields: &Fields<'_, '_>) -> usize {
-    let all = fields.parts.len();
+    let all = fields.count();
     let tail = match fields.tail {
         Some(start) => start,
         None => all,
     };
     let mut count = 0usize;
     let mut absent = 0usize;
-    for (place, part) in fields.parts.iter().enumerate() {
-        if place >= tail {
-            break;
-        }
-        if may_be_absent(part) {
+    for place in 0..tail {
+        let Some(field) = fields.at(place) else { break };
+        if may_be_absent(field.part) {
             absent = absent.saturating_add(1);
         }
         if !fits(count.saturating_add(1), absent, fields.is_tagged) {
@@ -95,7 +93,9 @@ fn rest_source(
     fragments.set_filled(b'V', "@U");
     fragments.set_term(b'7', "@Q", 25);
     fragments.set_term(b'8', "@X", 25);
-    Ok(finished(alloc, source, whole, !rest.name.is_empty(), &fragments))
+    fragments.set_term(b'6', "@h", 30);
+    let has_rest = !rest.name.is_empty();
+    Ok(finished(alloc, source, whole, has_rest, fields.is_set, &fragments))
 }
 
 // The source of parts whose marks are set.
@@ -104,17 +104,22 @@ fn finished(
     source: &CrateSource<'_, '_>,
     whole: &TypeName,
     has_rest: bool,
+    is_set: bool,
     fragments: &Fragments,
 ) -> Text {
     let mut body = Text::new(alloc);
     fragments.fill("@ztype Each = @T;\n", &mut body);
     fragments.fill(PARTS_IMPLS, &mut body);
+    if is_set {
+        fragments.fill(SET_PARTS_IMPL, &mut body);
+    }
     if whole.is_canonical {
         fragments.fill(CANONICAL_PARTS_IMPL, &mut body);
     }
     body.put(fragments.get(b'd'));
     let mut clauses = Text::new(alloc);
     fragments.fill(rest_clauses(has_rest, whole.is_canonical), &mut clauses);
+    fragments.fill(set_clauses(has_rest && is_set), &mut clauses);
     clauses.put(fragments.get(b'j'));
     let mut code = Text::new(alloc);
     fragments.fill(rest_code(has_rest), &mut code);
@@ -139,13 +144,13 @@ fn finished(
 fn counts_of(alloc: Global, fields: &Fields<'_, '_>) -> Result<Vec<usize>, AllocError> {
     let mut counts = Vec::new(alloc);
     let mut start = 0usize;
-    for _ in 0..fields.parts.len() {
+    for _ in 0..fields.count() {
         let count = first_run(&fields.from(start));
         if counts.push(count).is_err() {
             return Err(AllocError);
         }
         start = start.saturating_add(count);
-        if start >= fields.parts.len() {
+        if start >= fields.count() {
             break;
         }
     }

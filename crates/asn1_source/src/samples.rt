@@ -2,6 +2,8 @@
 
 use crate::defaults::has_tested_default;
 use crate::sample_octets::{put_element, put_number, put_primitive, put_retagged};
+use crate::sets::{Listed, in_order, in_tag_order, unread};
+use crate::terms::TypeNames;
 use crate::text::Text;
 use asn1_types::model::{
     Alternatives, Body, Components, DefaultValue, Definition, Enumeration, Integer, IntegerBounds,
@@ -50,6 +52,7 @@ static SAMPLE_ARCS: [u64; 3] = [1, 2, 3];
 struct Sampler<'p> {
     alloc: Global,
     samples: &'p [Sample],
+    names: &'p TypeNames,
     extent: Extent,
 }
 
@@ -203,9 +206,16 @@ impl Sampler<'_> {
     }
 
     // The samples of parts, one after the other, or `None` if one has none.
-    fn contents_of(&self, components: &Components<'_>) -> Result<Option<Text>, AllocError> {
+    fn contents_of(
+        &self,
+        components: &Components<'_>,
+        order: &[Listed],
+    ) -> Result<Option<Text>, AllocError> {
         let mut contents = Text::new(self.alloc);
-        for part in components.parts.iter() {
+        for listed in order {
+            let Some(part) = components.parts.get(listed.place) else {
+                continue
+            };
             let is_full = self.extent == Extent::Full;
             let is_there = match &part.presence {
                 Presence::Required => !part.is_addition || is_full,
@@ -228,13 +238,32 @@ impl Sampler<'_> {
         Ok(Some(contents))
     }
 
-    // A sample of a SEQUENCE or a SET, or an empty text.
-    fn constructed(&self, number: u64, components: &Components<'_>) -> Result<Text, AllocError> {
+    // A sample of a SEQUENCE or a SET whose parts are in this order, or an empty text.
+    fn constructed(
+        &self,
+        number: u64,
+        components: &Components<'_>,
+        order: &[Listed],
+    ) -> Result<Text, AllocError> {
         let mut out = Text::new(self.alloc);
-        if let Some(contents) = self.contents_of(components)? {
+        if let Some(contents) = self.contents_of(components, order)? {
             put_element(universal(number), true, contents.as_slice(), &mut out);
         }
         Ok(out)
+    }
+
+    fn sequence(&self, components: &Components<'_>) -> Result<Text, AllocError> {
+        let order = in_order(self.alloc, components.parts.as_slice())?;
+        self.constructed(16, components, order.as_slice())
+    }
+
+    fn set(&self, body: &Body<'_>, components: &Components<'_>) -> Result<Text, AllocError> {
+        let order = if unread(body, self.names).is_none() {
+            in_tag_order(self.alloc, components, self.names)?
+        } else {
+            in_order(self.alloc, components.parts.as_slice())?
+        };
+        self.constructed(17, components, order.as_slice())
     }
 
     // A sample of a CHOICE: of the first alternative that has one, or of the last one for the full sample.
@@ -268,8 +297,8 @@ impl Sampler<'_> {
 
     fn body(&self, body: &Body<'_>) -> Result<Text, AllocError> {
         match body {
-            Body::Sequence(components) => self.constructed(16, components),
-            Body::Set(components) => self.constructed(17, components),
+            Body::Sequence(components) => self.sequence(components),
+            Body::Set(components) => self.set(body, components),
             Body::Choice(choice) => self.chosen(choice),
             Body::Enumerated(enumeration) => Ok(self.item(enumeration)),
             Body::Value(notation) | Body::Alias(notation) => self.sample(notation),
@@ -350,12 +379,14 @@ fn nested<'n>(alloc: Global, notation: &'n Notation) -> Result<Vec<&'n Notation>
 fn sample_after(
     alloc: Global,
     samples: &[Sample],
+    names: &TypeNames,
     definition: &Definition<'_>,
     extent: Extent,
 ) -> Result<Vec<u8>, AllocError> {
     let sampler = Sampler {
         alloc,
         samples,
+        names,
         extent,
     };
     sampler.definition(definition)
@@ -365,11 +396,13 @@ fn sample_after(
 pub fn samples_of(
     alloc: Global,
     definitions: &[Definition<'_>],
+    names: &TypeNames,
 ) -> Result<Vec<Sample>, AllocError> {
     let mut samples = Vec::new(alloc);
     for definition in definitions {
-        let least = sample_after(alloc, samples.as_slice(), definition, Extent::Least)?;
-        let full = sample_after(alloc, samples.as_slice(), definition, Extent::Full)?;
+        let before = samples.as_slice();
+        let least = sample_after(alloc, before, names, definition, Extent::Least)?;
+        let full = sample_after(alloc, before, names, definition, Extent::Full)?;
         if samples.push(Sample { least, full }).is_err() {
             return Err(AllocError);
         }

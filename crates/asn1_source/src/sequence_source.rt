@@ -1,9 +1,9 @@
-//! The source of a SEQUENCE.
+//! The source of a SEQUENCE or a SET.
 
 use crate::extension::put_omitted;
 use crate::parts::*;
 use crate::template::Fragments;
-use crate::templates::{Bodies, EXPLICIT_BODIES, IMPLICIT_BODIES, SEQUENCE_BODIES};
+use crate::templates::{Bodies, EXPLICIT_BODIES, IMPLICIT_BODIES, SEQUENCE_BODIES, SET_BODIES};
 use crate::terms::{Aspect, TypeNames, put_under};
 use crate::text::Text;
 use asn1_types::model::{TagClass, TagLayer, TagMode};
@@ -57,7 +57,7 @@ fn set_listed(
 }
 
 /// Sets `T` to the notations of parts, `U` for its values, `Q` for the term of its law and `X` for that of its law of writing. `z` is an alias that
-/// the notations name.
+/// the notations name. `h` is the term of the law of the parts of a SET.
 pub fn set_run_texts(
     alloc: Global,
     fragments: &mut Fragments,
@@ -73,6 +73,10 @@ pub fn set_run_texts(
     set_listed(fragments, b'Q', &LAW, fields, &end, names);
     let end = end_of(alloc, rest, &WRITTEN, "(", "_written refl)", true);
     set_listed(fragments, b'X', &WRITTEN, fields, &end, names);
+    if fields.is_set {
+        let end = end_of(alloc, rest, &SET_LAW, "(", "_set refl)", true);
+        set_listed(fragments, b'h', &SET_LAW, fields, &end, names);
+    }
     let mut omitted = Text::new(alloc);
     if let Some(start) = fields.tail {
         put_omitted(fields, start, names, &mut omitted);
@@ -152,6 +156,13 @@ fn set_whole(tags: &[TagLayer], fragments: &mut Fragments) {
     fragments.set(b'C', written);
 }
 
+// The notation of a SET, and the terms of its laws.
+fn set_whole_set(fragments: &mut Fragments) {
+    fragments.set_octets(b'W', b"Set<Parts>");
+    fragments.set_filled(b'L', "(set_lawful @Q @h)");
+    fragments.set_filled(b'C', "(set_writes @X @h)");
+}
+
 /// The first of some items.
 pub fn first_of<T>(items: &[T], count: usize) -> &[T] {
     match items.get(..count) {
@@ -160,7 +171,7 @@ pub fn first_of<T>(items: &[T], count: usize) -> &[T] {
     }
 }
 
-/// Sets the marks of a source to those of a SEQUENCE, whose first parts are in its own file.
+/// Sets the marks of a source to those of a SEQUENCE or a SET, whose first parts are in its own file.
 pub fn set_sequence(
     alloc: Global,
     fragments: &mut Fragments,
@@ -173,12 +184,16 @@ pub fn set_sequence(
     let first = fields.first(count);
     set_run_texts(alloc, fragments, &first, rest, names);
     set_references(fragments, b'R', &first, rest, "value", names);
-    set_all(fragments, b'D', &FIELDS, fields, names);
+    set_all(fragments, b'D', &FIELDS, &fields.in_module(), names);
     set_all(fragments, b'o', &VALUE_OF, fields, names);
     fragments.set_filled(b'v', "λ v. @o");
     set_all(fragments, b'P', &PATTERN, fields, names);
-    set_all(fragments, b'n', &NAMES, fields, names);
-    set_whole(tags, fragments);
+    set_all(fragments, b'n', &NAMES, &fields.in_module(), names);
+    if fields.is_set {
+        set_whole_set(fragments);
+    } else {
+        set_whole(tags, fragments);
+    }
     fragments.set_octets(b'V', b"Fields");
     fragments.set_filled(
         b'A',
@@ -187,7 +202,11 @@ pub fn set_sequence(
     fragments.set_filled(b'S', "#[derive(Drop)]\npub struct @N {\n@D}\n");
     fragments.set_filled(b'f', "@N { @n}");
     fragments.set_octets(b'M', "λ u m v. element_non_empty _ _ _ _".as_bytes());
-    let bodies = bodies_of(tags, fragments);
+    let bodies = if fields.is_set {
+        &SET_BODIES
+    } else {
+        bodies_of(tags, fragments)
+    };
     set_bodies(bodies, fragments);
 }
 

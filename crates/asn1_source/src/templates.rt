@@ -74,6 +74,17 @@ impl Checked for @N {
 }
 ";
 
+/// The impl by which a CHOICE is a part of a SET. `@k` is its tags.
+pub static SET_PART_IMPL: &str = "
+impl SetPart for @N {
+    fn read_chosen(set: &mut BERReaderSet) -> ASN1Result<Option<@N>> {
+        read_part::<@N>(&[@k], set)
+    }
+
+    ghost is_known = { refl };
+}
+";
+
 /// How something is written, prepended, measured and tested.
 pub struct Bodies {
     /// How it is written.
@@ -91,6 +102,14 @@ pub static SEQUENCE_BODIES: Bodies = Bodies {
     write: "Sequence::<Parts>::write_fields(@R, writer)",
     prepend: "Sequence::<Parts>::prepend_fields(@R, under, out)",
     len: "Sequence::<Parts>::fields_len(@R, under, mode)",
+    accepts: "accepts_fields::<Parts, _>(@R)",
+};
+
+/// Those of a SET.
+pub static SET_BODIES: Bodies = Bodies {
+    write: "Set::<Parts>::write_fields(@R, writer)",
+    prepend: "Set::<Parts>::prepend_fields(@R, under, out)",
+    len: "Set::<Parts>::fields_len(@R, under, mode)",
     accepts: "accepts_fields::<Parts, _>(@R)",
 };
 
@@ -216,6 +235,26 @@ impl<'a> CheckedBy<&'a @O> for @R {
         let fields = @E;
         Each::accept_each(&fields)
     }
+}
+";
+
+/// The impl of parts of a SET. `@6` is the term of their law.
+pub static SET_PARTS_IMPL: &str = "
+impl SetParts for @R {
+    ghost set_tags = { ⟦<Each as SetParts>⟧.set_tags };
+
+    ghost members = { ⟦<Each as SetParts>⟧.members };
+
+    ghost picks = { ⟦<Each as SetParts>⟧.picks };
+
+    ghost set_unambiguous = { ⟦<Each as SetParts>⟧.set_unambiguous };
+
+    #[inline(always)]
+    fn read_set_parts(set: &mut BERReaderSet) -> ASN1Result<@RFields> {
+        <Each as SetParts>::read_set_parts(set)
+    }
+
+    ghost set_laws = { λ _. @6 };
 }
 ";
 

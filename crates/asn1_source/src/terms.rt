@@ -4,7 +4,7 @@ ghost use Rattle.std.specs.Prelude.{◌<◌, length};
 use crate::forms::Form;
 use crate::shapes::{Shape, innermost, shape_of, size_of, tag_shape};
 use crate::text::Text;
-use asn1_types::model::{Integer, Notation, TagLayer};
+use asn1_types::model::{Integer, Notation, Tag, TagLayer};
 
 /// Which text of a notation.
 #[derive(Clone, Copy)]
@@ -40,6 +40,22 @@ pub struct TypeName {
     pub is_canonical: bool,
     /// Whether it is a CHOICE of which an alternative that this version doesn't know is a value.
     pub is_open: bool,
+    /// The one tag that its encodings begin with, if it has a tag of its own.
+    pub own_tag: Option<Tag>,
+    /// The tags of a CHOICE of this crate that has none of its own, if no other tag begins an encoding of it.
+    pub choice_tags: Vec<Tag>,
+    /// Whether it is such a CHOICE, and a part of a SET.
+    pub is_set_part: bool,
+    /// Why its parts aren't read, if it is a SET whose elements are as they came.
+    pub unread: Option<&'static str>,
+}
+
+/// The one of these tags, unless they are those of a type without a tag of its own.
+pub fn own_tag(tags: &[Tag], is_untagged: bool) -> Option<Tag> {
+    match tags {
+        [only] if !is_untagged => Some(*only),
+        _ => None,
+    }
 }
 
 /// The names of all types that a source may hold.

@@ -144,7 +144,7 @@ pub fn tests_of(
     alloc: Global,
     source: &CrateSource<'_, '_>,
 ) -> Result<Vec<SourceFile>, AllocError> {
-    let samples = samples_of(alloc, source.definitions)?;
+    let samples = samples_of(alloc, source.definitions, source.names)?;
     let mut fragments = Fragments::new(alloc);
     fragments.set_octets(b'K', source.krate);
     fragments.set_octets(b'Q', b"test");

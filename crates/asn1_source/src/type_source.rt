@@ -10,11 +10,12 @@ use crate::head::{ModuleSource, put_head, put_path};
 use crate::imports::{Words, put_clause_table, put_code_table};
 use crate::item_defaults::set_default_types;
 use crate::naming::{field_names, item_names, variant_names};
-use crate::parts::fields_of;
+use crate::parts::Fields;
 use crate::parts_source::{first_run, put_rests};
 use crate::sequence_source::set_sequence;
+use crate::sets::{Listed, in_order, in_tag_order, put_choice_tags};
 use crate::template::Fragments;
-use crate::templates::{CANONICAL_IMPL, CHECKED_IMPL, ENUMERATION, IMPLS};
+use crate::templates::{CANONICAL_IMPL, CHECKED_IMPL, ENUMERATION, IMPLS, SET_PART_IMPL};
 use crate::terms::{TypeName, TypeNames};
 use crate::text::Text;
 use crate::type_imports::{put_all_laws, put_all_types};
@@ -195,7 +196,7 @@ fn add_type(
 ) -> Result<(), AllocError> {
     let body = body_of(fragments, name.is_canonical);
     let mut text = Text::new(alloc);
-    put_head(alloc, source.modules, definition, name.is_open, &mut text);
+    put_head(alloc, source.modules, definition, name, &mut text);
     let mut more = Text::new(alloc);
     fragments.fill(clauses, &mut more);
     let mut lines = Text::new(alloc);
@@ -219,6 +220,15 @@ const REST_CLAUSES: &str =
 const REST_WRITTEN_CLAUSES: &str =
     "ghost use Rattle.@K.specs.contracts.@y.@YParts.TheImpl.Laws.{laws-law as @y_parts};\nghost use Rattle.@K.specs.contracts.@y.@YCanonicalParts.TheImpl.Laws.{written-law as @y_written};\n";
 
+/// The line that brings in the law of the parts of a SET that follow others, by `@y` and `@Y`.
+pub fn set_clauses(has_rest: bool) -> &'static str {
+    if has_rest {
+        "ghost use Rattle.@K.specs.contracts.@y.@YSetParts.TheImpl.Laws.{set_laws-law as @y_set};\n"
+    } else {
+        ""
+    }
+}
+
 /// The lines that bring in the parts that follow others, by `@y` and `@Y`.
 pub fn rest_clauses(has_rest: bool, is_canonical: bool) -> &'static str {
     if !has_rest {
@@ -239,24 +249,36 @@ pub fn rest_code(has_rest: bool) -> &'static str {
     }
 }
 
-// Adds the files of a SEQUENCE.
-fn add_sequence(
+// A SEQUENCE or a SET: its parts, the order of their notations, and the tags around it.
+#[derive(Clone, Copy)]
+struct Constructed<'p, 'a> {
+    components: &'p Components<'a>,
+    order: &'p [Listed],
+    tags: &'p [TagLayer],
+    is_set: bool,
+}
+
+// Adds the files of a SEQUENCE or a SET.
+fn add_constructed(
     alloc: Global,
     source: &CrateSource<'_, '_>,
     definition: &Definition<'_>,
     name: &TypeName,
-    components: &Components<'_>,
-    tags: &[TagLayer],
+    of: Constructed<'_, '_>,
     files: &mut Files,
 ) -> Result<(), AllocError> {
-    let parts = components.parts.as_slice();
+    let parts = of.components.parts.as_slice();
     let field_names = field_names(alloc, parts)?;
-    let fields = fields_of(
+    let declared = in_order(alloc, parts)?;
+    let fields = Fields {
         parts,
-        field_names.as_slice(),
-        tail_of(components),
-        !tags.is_empty(),
-    );
+        names: field_names.as_slice(),
+        order: of.order,
+        declared: declared.as_slice(),
+        tail: tail_of(of.components),
+        is_tagged: !of.tags.is_empty(),
+        is_set: of.is_set,
+    };
     let mut fragments = begun(alloc, source, name, definition.path.as_slice());
     let rest = put_rests(alloc, source, name, &fields, files)?;
     let has_rest = !rest.name.is_empty();
@@ -264,8 +286,9 @@ fn add_sequence(
     fragments.set_octets(b'Y', rest.name.as_slice());
     let count = first_run(&fields);
     let names = source.names;
-    set_sequence(alloc, &mut fragments, count, &rest, &fields, tags, names);
+    set_sequence(alloc, &mut fragments, count, &rest, &fields, of.tags, names);
     set_default_types(alloc, &mut fragments, source, &fields.first(count))?;
+    fragments.set_filled(b'1', set_clauses(has_rest && of.is_set));
     fragments.set_filled(b'e', rest_clauses(has_rest, name.is_canonical));
     add_type(
         alloc,
@@ -273,7 +296,7 @@ fn add_sequence(
         definition,
         name,
         &mut fragments,
-        "@e@j",
+        "@e@1@j",
         rest_code(has_rest),
         files,
     )
@@ -282,6 +305,17 @@ fn add_sequence(
 // What a CHOICE brings in.
 const VARIANT_CLAUSES: &str =
     "ghost use Rattle.std.specs.Prelude.{[]};\nghost use Rattle.@K.specs.declared.@F.@N.TheVariants.{@G};\n";
+
+// Sets `d` to the impl by which a CHOICE is a part of a SET, if it is one.
+fn set_part_impl(fragments: &mut Fragments, name: &TypeName) {
+    if !name.is_set_part {
+        return;
+    }
+    let mut tags = fragments.text();
+    put_choice_tags(name, &mut tags);
+    fragments.set(b'k', tags);
+    fragments.set_filled(b'd', SET_PART_IMPL);
+}
 
 // Adds the files of a CHOICE whose source is this.
 fn add_choice_source(
@@ -301,6 +335,7 @@ fn add_choice_source(
     add_runs(alloc, source, name, choice, size, files)?;
     let has_rest = count > size;
     fragments.set_filled(b's', VARIANT_CLAUSES);
+    set_part_impl(&mut fragments, name);
     fragments.set_filled(
         b'e',
         alternatives_source::rest_clauses(has_rest, name.is_canonical),
@@ -389,7 +424,7 @@ fn add_enumeration(
     fragments.set_octets(b'F', name.file.as_slice());
     set_enumeration(&mut fragments, &of);
     let mut text = Text::new(alloc);
-    put_head(alloc, source.modules, definition, name.is_open, &mut text);
+    put_head(alloc, source.modules, definition, name, &mut text);
     fragments.fill(NUMBER_CLAUSES, &mut text);
     fragments.fill(ENUMERATION, &mut text);
     files.add("src/", name.file.as_slice(), ".rt", text)?;
@@ -454,6 +489,10 @@ fn untagged_name(alloc: Global, name: &TypeName) -> Result<TypeName, AllocError>
             tags: Vec::new(alloc),
             is_canonical: name.is_canonical,
             is_open: name.is_open,
+            own_tag: None,
+            choice_tags: Vec::new(alloc),
+            is_set_part: false,
+            unread: name.unread,
         }),
         _ => Err(AllocError),
     }
@@ -461,6 +500,49 @@ fn untagged_name(alloc: Global, name: &TypeName) -> Result<TypeName, AllocError>
 
 // The number of the tag of a SET.
 const SET_NUMBER: u64 = 17;
+
+// Adds the files of a SET.
+fn add_set(
+    alloc: Global,
+    source: &CrateSource<'_, '_>,
+    definition: &Definition<'_>,
+    name: &TypeName,
+    components: &Components<'_>,
+    files: &mut Files,
+) -> Result<(), AllocError> {
+    if name.unread.is_some() {
+        let elements = Notation::ElementsUnder(SET_NUMBER);
+        return add_value(alloc, source, definition, name, &elements, files);
+    }
+    let order = in_tag_order(alloc, components, source.names)?;
+    let of = Constructed {
+        components,
+        order: order.as_slice(),
+        tags: &[],
+        is_set: true,
+    };
+    add_constructed(alloc, source, definition, name, of, files)
+}
+
+// Adds the files of a SEQUENCE.
+fn add_sequence(
+    alloc: Global,
+    source: &CrateSource<'_, '_>,
+    definition: &Definition<'_>,
+    name: &TypeName,
+    components: &Components<'_>,
+    tags: &[TagLayer],
+    files: &mut Files,
+) -> Result<(), AllocError> {
+    let order = in_order(alloc, components.parts.as_slice())?;
+    let of = Constructed {
+        components,
+        order: order.as_slice(),
+        tags,
+        is_set: false,
+    };
+    add_constructed(alloc, source, definition, name, of, files)
+}
 
 // Adds the files of what a definition is under these tags.
 fn add_body(
@@ -475,14 +557,7 @@ fn add_body(
         Body::Sequence(components) => add_sequence(
             alloc, source, definition, name, components, tags, files,
         ),
-        Body::Set(_) => add_value(
-            alloc,
-            source,
-            definition,
-            name,
-            &Notation::ElementsUnder(SET_NUMBER),
-            files,
-        ),
+        Body::Set(components) => add_set(alloc, source, definition, name, components, files),
         Body::Choice(choice) => add_choice(alloc, source, definition, name, choice, files),
         Body::Enumerated(enumeration) => add_enumeration(
             alloc,

@@ -1,5 +1,6 @@
 //! The source of a type that holds one value.
 
+use crate::alternatives::put_waiting_tags;
 use crate::sequence_source::set_bodies;
 use crate::template::Fragments;
 use crate::templates::VALUE_BODIES;
@@ -80,7 +81,10 @@ fn set_under(fragments: &mut Fragments, mark: u8, tags: &[TagLayer], aspect: Asp
 pub fn set_tagged(fragments: &mut Fragments, tags: &[TagLayer]) {
     fragments.set_filled(b'i', "(@J_law refl)");
     fragments.set_filled(b'j', "(@J_written refl)");
-    fragments.set_filled(b'k', "(@J_non_empty _)");
+    let mut waiting = fragments.text();
+    put_waiting_tags(tags, &mut waiting);
+    fragments.set(b'u', waiting);
+    fragments.set_filled(b'k', "(@J_non_empty @u)");
     set_under(fragments, b'T', tags, Aspect::Notation, b'B');
     fragments.set_filled(b'V', "@B");
     set_under(fragments, b'L', tags, Aspect::Law, b'i');

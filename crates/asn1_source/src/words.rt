@@ -15,7 +15,7 @@ static RESERVED: [&str; 68] = [
 ];
 
 // Names that the sources themselves use.
-static TAKEN: [&str; 104] = [
+static TAKEN: [&str; 109] = [
     "ASN1Result",
     "Alternatives",
     "Any",
@@ -24,6 +24,7 @@ static TAKEN: [&str; 104] = [
     "BERMode",
     "BERReader",
     "BERReaderSeq",
+    "BERReaderSet",
     "BigInteger",
     "BitString",
     "BmpString",
@@ -105,12 +106,16 @@ static TAKEN: [&str; 104] = [
     "Self",
     "Sequence",
     "SequenceOf",
+    "Set",
     "SetOf",
+    "SetPart",
+    "SetParts",
     "Sides",
     "Signed",
     "Some",
     "String",
     "Tag",
+    "TagClass",
     "TaggedDerValue",
     "TestedIdentifier",
     "TestedOctets",

@@ -21,8 +21,9 @@ mod output;
 mod type_reports;
 
 use asn1_source::{
-    CrateSource, Export, ModuleSource, SourceFile, crate_line, differences_of, known_names,
-    known_types, list_of, mutants_of, names_of, reached, source_of, sources_of, tests_of,
+    CrateSource, Export, ModuleSource, SourceFile, TypeName, crate_line, differences_of,
+    known_names, known_types, list_of, mutants_of, names_of, reached, source_of, sources_of,
+    tests_of,
 };
 use asn1_types::model::{Definition, KnownType, Resolved};
 use asn1_types::resolve;
@@ -126,8 +127,9 @@ fn judge_one(
     files: &[ModuleFile<'_>],
     modules: &Modules<'_>,
     definition: &Definition<'_>,
+    name: &TypeName,
 ) -> u8 {
-    match differences_of(rt.alloc(), definition) {
+    match differences_of(rt.alloc(), definition, name) {
         Ok(differences) => report_differences(rt, files, modules, differences.as_slice()),
         Err(_) => ProgramError::Memory.report(rt),
     }
@@ -141,9 +143,15 @@ fn judge(
     source: &CrateSource<'_, '_>,
 ) -> u8 {
     let mut status = 0;
-    for (definition, is_wanted) in source.definitions.iter().zip(source.wanted.iter()) {
+    for (place, name) in source.names.defined.iter().enumerate() {
+        let (Some(definition), Some(is_wanted)) = (
+            source.definitions.get(place),
+            source.wanted.get(place),
+        ) else {
+            continue
+        };
         if *is_wanted {
-            status = judge_one(rt, files, modules, definition).max(status);
+            status = judge_one(rt, files, modules, definition, name).max(status);
         }
     }
     status
@@ -179,7 +187,7 @@ fn compile<'a>(
     let definitions = resolved.definitions.as_slice();
     let alloc = rt.alloc();
     let imported = known_names(alloc, exports)?;
-    let names = names_of(alloc, definitions, imported)?;
+    let names = names_of(alloc, definitions, resolved.tag_sets.as_slice(), imported)?;
     let wanted = reached(alloc, definitions, options.types())?;
     let sources = module_sources(alloc, files, modules)?;
     let source = source_of(

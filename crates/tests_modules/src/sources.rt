@@ -78,6 +78,54 @@ static SEQUENCES: [Row; 3] = [
     ),
 ];
 
+const BADGE: &[u8] =
+    b"M DEFINITIONS ::= BEGIN Badge ::= SET { number INTEGER, name [0] IMPLICIT UTF8String OPTIONAL, flag BOOLEAN DEFAULT FALSE, point Point } Point ::= [APPLICATION 1] SEQUENCE { x INTEGER } END";
+
+// A SET: its parts in the order of their tags, its fields in that of the module, and why the parts of some aren't read.
+static SETS: [Row; 9] = [
+    (
+        b"M DEFINITIONS IMPLICIT TAGS ::= BEGIN Badge ::= [APPLICATION 2] SET { flag BOOLEAN } END",
+        "src/badge.rt",
+        "(badge_untagged_non_empty (Some (tag_or u (application 2))))",
+    ),
+    (
+        BADGE,
+        "src/badge.rt",
+        "type Parts = (Default<Implicit<Universal<1>, bool>, Unset>, (Implicit<Universal<2>, BigInteger>, (Implicit<Application<1>, Point>, (Optional<Implicit<Context<0>, String>>, ()))));\n",
+    ),
+    (
+        BADGE,
+        "src/badge.rt",
+        "    pub number: (Vec<u8>, bool),\n    pub name: Option<String>,\n    pub flag: bool,\n    pub point: Point,\n",
+    ),
+    (BADGE, "src/badge.rt", "type Notated = Set<Parts>;\n"),
+    (
+        BADGE,
+        "list",
+        "Point: exact, canonical\nBadge: exact, canonical\n",
+    ),
+    (
+        b"M DEFINITIONS AUTOMATIC TAGS ::= BEGIN Long ::= SET { a NULL, b NULL, c NULL, d NULL, e NULL, f NULL, g NULL } END",
+        "src/long_parts2.rt",
+        "impl SetParts for LongParts2 {\n",
+    ),
+    (
+        b"M DEFINITIONS IMPLICIT TAGS ::= BEGIN Pick ::= CHOICE { a [PRIVATE 1] NULL, b [2] NULL } Box ::= SET { pick Pick } END",
+        "src/pick.rt",
+        "        read_part::<Pick>(&[Tag { tag_class: TagClass::Private, tag_number: 1 }, Tag { tag_class: TagClass::ContextSpecific, tag_number: 2 }], set)\n",
+    ),
+    (
+        b"M DEFINITIONS ::= BEGIN Badge ::= SET { number INTEGER, ... } END",
+        "src/badge.rt",
+        "//! Its elements are as they came: the components of a SET with `...` aren't read.\n",
+    ),
+    (
+        b"M DEFINITIONS ::= BEGIN Badge ::= SET { any ANY } END",
+        "list",
+        "Badge: accepts more: the components of a SET with a part that may be any element aren't read\n",
+    ),
+];
+
 // An ENUMERATED: its tags, a DEFAULT, and the size of a BMPString, which isn't tested.
 static VALUES: [Row; 5] = [
     (
@@ -136,7 +184,7 @@ static TESTED: [Row; 6] = [
     (
         b"M DEFINITIONS ::= BEGIN Label ::= SEQUENCE { id NULL, text UTF8String DEFAULT \"a\", ... } Badge ::= SET { text UTF8String DEFAULT \"a\" } END",
         "list",
-        "Label: accepts more\nBadge: accepts more: the components of a SET aren't read\n",
+        "Label: accepts more\nBadge: accepts more, canonical\n",
     ),
 ];
 
@@ -148,7 +196,7 @@ static LISTED: [Row; 5] = [
     (
         b"M DEFINITIONS ::= BEGIN Badge ::= [1] SET { number INTEGER, ... } END",
         "list",
-        "Badge: accepts more: the components of a SET aren't read\n",
+        "Badge: accepts more: the components of a SET with `...` aren't read\n",
     ),
     (
         b"M DEFINITIONS ::= BEGIN Shape ::= CHOICE { number INTEGER, ... } Box ::= SEQUENCE { shape Shape OPTIONAL, label UTF8String } END",
@@ -176,7 +224,12 @@ const LEVEL: &[u8] =
     b"M DEFINITIONS ::= BEGIN Level ::= [APPLICATION 40] SEQUENCE { number INTEGER (5..9), name [1] IMPLICIT UTF8String OPTIONAL } END";
 
 // What is written beside the sources of a crate: the types that it exports, its tests, and edits that are wrong.
-static OTHER_FILES: [Row; 4] = [
+static OTHER_FILES: [Row; 5] = [
+    (
+        BADGE,
+        "src/samples.rt",
+        "Badge>>(rt.alloc(), b\"\\x31\\x0a\\x02\\x01\\x00\\x61\\x05\\x30\\x03\\x02\\x01\\x00\"));\n",
+    ),
     (
         b"M DEFINITIONS ::= BEGIN Pick ::= CHOICE { flag [0] BOOLEAN, size INTEGER } END",
         "exports",
@@ -230,7 +283,8 @@ fn has_lines<'a>(
     lines: &str,
 ) -> Result<bool, AllocError> {
     let definitions = resolved.definitions.as_slice();
-    let names = names_of(alloc, definitions, Vec::new(alloc))?;
+    let tags = resolved.tag_sets.as_slice();
+    let names = names_of(alloc, definitions, tags, Vec::new(alloc))?;
     let wanted = reached(alloc, definitions, None)?;
     let mut sources = Vec::new(alloc);
     for tree in modules {
@@ -300,6 +354,11 @@ fn choices_are_written(rt: HostRuntime) {
 #[test]
 fn sequences_are_written(rt: HostRuntime) {
     assert!(rt; first_missing(rt.alloc(), &SEQUENCES, &[]).is_none());
+}
+
+#[test]
+fn sets_are_written(rt: HostRuntime) {
+    assert!(rt; first_missing(rt.alloc(), &SETS, &[]).is_none());
 }
 
 #[test]
