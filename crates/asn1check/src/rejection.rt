@@ -21,10 +21,6 @@ struct ElementBefore<'m> {
 }
 
 impl<'m> Visitor for ElementBefore<'m> {
-    ghost use Rattle.std.specs.Prelude.{None};
-
-    ghost visited = { λ _. None };
-
     ghost rejects = { λ _ e. IsExternal e };
 
     fn visit(&mut self, item: &Item<'_>) -> Result<(), WalkError> {

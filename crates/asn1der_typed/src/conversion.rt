@@ -22,10 +22,6 @@ const LEVELS: u8 = 101;
 struct Silent;
 
 impl Visitor for Silent {
-    ghost use Rattle.std.specs.Prelude.{None};
-
-    ghost visited = { λ _. None };
-
     ghost rejects = { λ _ _. ⊥ };
 
     fn visit(&mut self, _item: &Item<'_>) -> Result<(), WalkError> {

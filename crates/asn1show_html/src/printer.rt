@@ -1,10 +1,11 @@
 //! The visitor that writes elements as HTML.
-ghost use Rattle.std.specs.Prelude.{IfErr};
+ghost use Rattle.std.specs.Prelude.{◌≡◌, [], IfErr, IfOk, None};
+ghost use Rattle.asn1show_printer.specs.Reports.{IsReportOf};
 ghost use Rattle.asn1show_walk.specs.Errors.{IsExternal};
 
 use crate::element::{write_diagnostics, write_ends, write_head, write_octets, write_value};
 use asn1show_json::OpenElements;
-use asn1show_printer::{Label, LineBuffer, Output, Report, Source, Style};
+use asn1show_printer::{Conformance, Label, LineBuffer, Output, Report, Source, Style};
 use asn1show_walk::{Context, Item, Place, Visitor, WalkError, is_one_element};
 use std::alloc::Global;
 use std::io::Write;
@@ -34,7 +35,9 @@ impl<'w, 'n, W: Write + Drop> HtmlPrinter<'w, 'n, W> {
         output: &'w mut Output<W>,
         style: Style<'n>,
         source: Source<'n>,
-    ) -> HtmlPrinter<'w, 'n, W> {
+    ) -> HtmlPrinter<'w, 'n, W>
+        ensures { style.entry.view.schema ≡ None → IsReportOf result.report [] }
+    {
         HtmlPrinter {
             output,
             report: Report::new(style),
@@ -46,7 +49,8 @@ impl<'w, 'n, W: Write + Drop> HtmlPrinter<'w, 'n, W> {
 
     // Writes the row of an element that was described.
     fn write_element(&mut self, item: &Item<'_>, label: Label<'_>) -> Result<(), WalkError>
-        ensures { IfErr result IsExternal }
+        ensures report { self.new.report ≡ self.old.report }
+        ensures external { IfErr result IsExternal }
     {
         let mut line = LineBuffer::new(self.alloc);
         write_ends(&mut line, self.open.enter(item.depth));
@@ -56,11 +60,12 @@ impl<'w, 'n, W: Write + Drop> HtmlPrinter<'w, 'n, W> {
         self.output.write(&mut line)
     }
 
-    /// Ends the elements that are open, and writes the encoding rules that the elements conform to.
+    /// Ends the elements that are open, writes the encoding rules that the elements conform to, and returns these.
     ///
     /// `Err` says that memory ran out, or that a write failed.
-    pub fn finish(self, is_whole: bool) -> Result<(), WalkError>
-        ensures { IfErr result IsExternal }
+    pub fn finish(self, is_whole: bool) -> Result<Conformance, WalkError>
+        ensures conformance { IfOk result (λ c. c ≡ self.entry.report.conformance) }
+        ensures external { IfErr result IsExternal }
     {
         let HtmlPrinter {
             output,
@@ -69,6 +74,7 @@ impl<'w, 'n, W: Write + Drop> HtmlPrinter<'w, 'n, W> {
             alloc,
             ..
         } = self;
+        let conformance = report.conformance();
         report.finish(output);
         let mut line = LineBuffer::new(alloc);
         write_ends(&mut line, open.count());
@@ -76,25 +82,34 @@ impl<'w, 'n, W: Write + Drop> HtmlPrinter<'w, 'n, W> {
             let modes = report.modes();
             write!(line, "<p>rules: {modes}</p>");
         }
-        output.write(&mut line)
+        match output.write(&mut line) {
+            Ok(()) => Ok(conformance),
+            Err(error) => Err(error),
+        }
     }
 }
 
 impl<'w, 'n, W: Write + Drop> Visitor for HtmlPrinter<'w, 'n, W> {
-    ghost use Rattle.std.specs.Prelude.{None};
     ghost use Rattle.asn1show_walk.specs.Errors.{IsExternal};
+    ghost use Rattle.asn1show_printer.specs.Reports.{IsReportOf};
 
-    ghost visited = { λ _. None };
+    ghost visited = { λ p lines. IsReportOf p.report lines };
 
     ghost rejects = { λ _. IsExternal };
 
     fn visit(&mut self, item: &Item<'_>) -> Result<(), WalkError> {
         let label = self.report.label(item);
-        self.report.describe(item, label);
-        if self.report.count(item) {
-            self.write_element(item, label)?;
+        match self.report.describe(item, label) {
+            Ok(()) => {}
+            Err(error) => return Err(error),
         }
-        self.report.discard()
+        if !self.report.count(item) {
+            return self.report.discard();
+        }
+        match self.write_element(item, label) {
+            Ok(()) => self.report.discard(),
+            Err(error) => Err(error),
+        }
     }
 
     // Descends if the contents are one whole element, and the string isn't a segment.

@@ -1,10 +1,11 @@
 //! The visitor that writes elements as JSON.
-ghost use Rattle.std.specs.Prelude.{IfErr};
+ghost use Rattle.std.specs.Prelude.{◌≡◌, [], IfErr, IfOk, None};
+ghost use Rattle.asn1show_printer.specs.Reports.{IsReportOf};
 ghost use Rattle.asn1show_walk.specs.Errors.{IsExternal};
 
 use crate::element::{element_text, end_text, start_text};
 use crate::open_elements::OpenElements;
-use asn1show_printer::{Label, LineBuffer, Output, Report, Style, characters_of};
+use asn1show_printer::{Conformance, Label, LineBuffer, Output, Report, Style, characters_of};
 use asn1show_walk::{Context, Item, Place, Visitor, WalkError, is_one_element};
 use std::alloc::Global;
 use std::io::Write;
@@ -61,7 +62,8 @@ impl<'w, 'n, W: Write + Drop> JsonPrinter<'w, 'n, W> {
         output: &'w mut Output<W>,
         style: Style<'n>,
     ) -> Result<JsonPrinter<'w, 'n, W>, WalkError>
-        ensures { IfErr result IsExternal }
+        ensures report { style.entry.view.schema ≡ None → IfOk result (λ p. IsReportOf p.report []) }
+        ensures external { IfErr result IsExternal }
     {
         let text = start_text(style.alloc)?;
         write_line(output, style.alloc, text.as_slice())?;
@@ -75,7 +77,8 @@ impl<'w, 'n, W: Write + Drop> JsonPrinter<'w, 'n, W> {
 
     // Writes an element that was described.
     fn write_element(&mut self, item: &Item<'_>, label: Label<'_>) -> Result<(), WalkError>
-        ensures { IfErr result IsExternal }
+        ensures report { self.new.report ≡ self.old.report }
+        ensures external { IfErr result IsExternal }
     {
         let ends = self.open.enter(item.depth);
         let value = value_of(item, self.report.plain_value()?);
@@ -91,11 +94,12 @@ impl<'w, 'n, W: Write + Drop> JsonPrinter<'w, 'n, W> {
         write_line(self.output, self.alloc, text.as_slice())
     }
 
-    /// Ends the elements that are open and the array, and notes the encoding rules that the elements conform to.
+    /// Ends the elements that are open and the array, notes the conformance of the elements, and returns it.
     ///
     /// `Err` says that memory ran out, or that a write failed.
-    pub fn finish(self) -> Result<(), WalkError>
-        ensures { IfErr result IsExternal }
+    pub fn finish(self) -> Result<Conformance, WalkError>
+        ensures conformance { IfOk result (λ c. c ≡ self.entry.report.conformance) }
+        ensures external { IfErr result IsExternal }
     {
         let JsonPrinter {
             output,
@@ -103,27 +107,37 @@ impl<'w, 'n, W: Write + Drop> JsonPrinter<'w, 'n, W> {
             open,
             alloc,
         } = self;
+        let conformance = report.conformance();
         report.finish(output);
         let text = end_text(alloc, open.count())?;
-        write_line(output, alloc, text.as_slice())
+        match write_line(output, alloc, text.as_slice()) {
+            Ok(()) => Ok(conformance),
+            Err(error) => Err(error),
+        }
     }
 }
 
 impl<'w, 'n, W: Write + Drop> Visitor for JsonPrinter<'w, 'n, W> {
-    ghost use Rattle.std.specs.Prelude.{None};
     ghost use Rattle.asn1show_walk.specs.Errors.{IsExternal};
+    ghost use Rattle.asn1show_printer.specs.Reports.{IsReportOf};
 
-    ghost visited = { λ _. None };
+    ghost visited = { λ p lines. IsReportOf p.report lines };
 
     ghost rejects = { λ _. IsExternal };
 
     fn visit(&mut self, item: &Item<'_>) -> Result<(), WalkError> {
         let label = self.report.label(item);
-        self.report.describe(item, label);
-        if self.report.count(item) {
-            self.write_element(item, label)?;
+        match self.report.describe(item, label) {
+            Ok(()) => {}
+            Err(error) => return Err(error),
         }
-        self.report.discard()
+        if !self.report.count(item) {
+            return self.report.discard();
+        }
+        match self.write_element(item, label) {
+            Ok(()) => self.report.discard(),
+            Err(error) => Err(error),
+        }
     }
 
     // Descends if the contents are one whole element, and the string isn't a segment.

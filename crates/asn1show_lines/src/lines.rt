@@ -1,5 +1,5 @@
 //! An input from its text to its lines.
-ghost use Rattle.std.specs.Prelude.{◌≡◌, ◌≢◌, ◌⊎◌, ◌≤◌, true, false, length, IfErr, OnOk, None, Some};
+ghost use Rattle.std.specs.Prelude.{◌≡◌, ◌≢◌, ◌⊎◌, ◌≤◌, true, false, length, IfErr, IfOk, OnOk, None, Some};
 ghost use Rattle.yasna_base.specs.Grammar.{max_depth};
 ghost use Rattle.yasna_base.specs.Raw.{IsRaw, IsJoining};
 ghost use Rattle.asn1_input.specs.Input.{IsTakenAs};
@@ -7,6 +7,7 @@ ghost use Rattle.asn1show_lines.specs.Input.{HoldsElements, HoldsNone};
 ghost use Rattle.asn1_input.specs.Reader.{has_any, open_lines, BlockFails, BlockHolds, GoesOn, IsFirstError, NeverComes};
 ghost use Rattle.asn1_input.specs.declared.input_format.InputFormat.{InputFormat};
 ghost use Rattle.asn1_input.specs.declared.input_format.InputFormat.TheVariants.{Bytes, Hex, Pem};
+ghost use Rattle.asn1show_printer.specs.Reports.{IsConformanceOf};
 ghost use Rattle.asn1show_walk.specs.Errors.{IsExternal, WalkFails};
 ghost use Rattle.asn1show_walk.specs.Reading.{NoElements};
 ghost use Rattle.asn1show_walk.specs.WellFormed.{AreElements};
@@ -15,28 +16,31 @@ use asn1_input::{Block, InputFormat, PemReader, cut_line, decode_hex, format_of,
 use asn1show_html::{HtmlPrinter, write_end, write_error, write_heading, write_start};
 use asn1show_json::JsonPrinter;
 use asn1show_printer::{
-    Layout, LineBuffer, Names, Output, Printer, Source, Style, View, write_quoted,
+    Conformance, Layout, LineBuffer, Names, Output, Printer, Source, Style, View, write_quoted,
 };
 use asn1show_walk::{Expected, WalkError, list_input};
 use std::alloc::Global;
 use std::io::Write;
 use yasna_base::mode::BERMode;
 
-// Lists the elements of bytes in lines, and prints their encoding rules.
+// Lists the elements of bytes in lines, prints their encoding rules, and returns these.
 fn show_lines<W: Write + Drop>(
     out: &mut Output<W>,
     mode: BERMode,
     style: Style<'_>,
     bytes: &[u8],
-) -> Result<(), WalkError>
+) -> Result<Conformance, WalkError>
     ensures raw { OnOk result (IsJoining (IsRaw mode max_depth) bytes.now) }
     ensures some { OnOk result (1 ≤ length bytes.now) }
     ensures elements { OnOk result (AreElements max_depth mode bytes.now) }
+    ensures rules { style.entry.view.schema ≡ None → IfOk result (λ c. IsConformanceOf mode bytes.now c) }
     ensures fails { IfErr result (λ f. WalkFails IsExternal (NoElements max_depth mode bytes.now) f) }
 {
     let mut printer = Printer::begin(out, style, Source { mode, bytes })?;
-    list_input(bytes, mode, &mut printer)?;
-    printer.finish()
+    match list_input(bytes, mode, &mut printer) {
+        Ok(()) => printer.finish(),
+        Err(error) => Err(error),
+    }
 }
 
 // Lists the elements of bytes in JSON. The array is ended also if they are malformed.
@@ -45,16 +49,20 @@ fn show_json<W: Write + Drop>(
     mode: BERMode,
     style: Style<'_>,
     bytes: &[u8],
-) -> Result<(), WalkError>
+) -> Result<Conformance, WalkError>
     ensures raw { OnOk result (IsJoining (IsRaw mode max_depth) bytes.now) }
     ensures some { OnOk result (1 ≤ length bytes.now) }
     ensures elements { OnOk result (AreElements max_depth mode bytes.now) }
+    ensures rules { style.entry.view.schema ≡ None → IfOk result (λ c. IsConformanceOf mode bytes.now c) }
     ensures fails { IfErr result (λ f. WalkFails IsExternal (NoElements max_depth mode bytes.now) f) }
 {
     let mut printer = JsonPrinter::begin(out, style)?;
     let listed = list_input(bytes, mode, &mut printer);
-    printer.finish()?;
-    listed
+    let conformance = printer.finish()?;
+    match listed {
+        Ok(()) => Ok(conformance),
+        Err(error) => Err(error),
+    }
 }
 
 // Lists the elements of bytes in HTML. Those that are open are ended also if the bytes are malformed.
@@ -63,16 +71,20 @@ fn show_html<W: Write + Drop>(
     mode: BERMode,
     style: Style<'_>,
     bytes: &[u8],
-) -> Result<(), WalkError>
+) -> Result<Conformance, WalkError>
     ensures raw { OnOk result (IsJoining (IsRaw mode max_depth) bytes.now) }
     ensures some { OnOk result (1 ≤ length bytes.now) }
     ensures elements { OnOk result (AreElements max_depth mode bytes.now) }
+    ensures rules { style.entry.view.schema ≡ None → IfOk result (λ c. IsConformanceOf mode bytes.now c) }
     ensures fails { IfErr result (λ f. WalkFails IsExternal (NoElements max_depth mode bytes.now) f) }
 {
     let mut page = HtmlPrinter::begin(out, style, Source { mode, bytes });
     let listed = list_input(bytes, mode, &mut page);
-    page.finish(listed.is_ok())?;
-    listed
+    let conformance = page.finish(listed.is_ok())?;
+    match listed {
+        Ok(()) => Ok(conformance),
+        Err(error) => Err(error),
+    }
 }
 
 // Lists the elements of bytes.
@@ -81,10 +93,11 @@ fn show_bytes<W: Write + Drop>(
     mode: BERMode,
     style: Style<'_>,
     bytes: &[u8],
-) -> Result<(), WalkError>
+) -> Result<Conformance, WalkError>
     ensures raw { OnOk result (IsJoining (IsRaw mode max_depth) bytes.now) }
     ensures some { OnOk result (1 ≤ length bytes.now) }
     ensures elements { OnOk result (AreElements max_depth mode bytes.now) }
+    ensures rules { style.entry.view.schema ≡ None → IfOk result (λ c. IsConformanceOf mode bytes.now c) }
     ensures fails { IfErr result (λ f. WalkFails IsExternal (NoElements max_depth mode bytes.now) f) }
 {
     match style.view.layout {
@@ -128,7 +141,10 @@ fn show_counted<W: Write + Drop>(
     let count = bytes.len();
     write!(line, "{count} bytes");
     begin(out, style, line)?;
-    show_bytes(out, mode, style, bytes)
+    match show_bytes(out, mode, style, bytes) {
+        Ok(_) => Ok(()),
+        Err(error) => Err(error),
+    }
 }
 
 // A line that begins with this text.

@@ -14,7 +14,8 @@ use Rattle.yasna_times.specs.declared.models.generalized_time.GeneralizedTime.{G
 use Rattle.yasna_times.specs.declared.models.utc_time.UTCTime.{UTCTime}
 use Rattle.yasna_times.proofs.GeneralText.{general_spells_one}
 use Rattle.yasna_times.proofs.UtcTime.{utc_spells_one}
-use Rattle.asn1show_printer.specs.Contents.{AreOfKind, IsLocalTime, InNone, OnlyInBer, DiagnosesOf, is_of_ber}
+use Rattle.asn1show_printer.specs.Contents.{AreOfKind, IsLocalTime, InNone, OnlyInBer, DiagnosesOf, is_of_ber, is_of_canonical}
+use Rattle.asn1show_printer.specs.Conformance.{excludes}
 use Rattle.asn1show_printer.specs.declared.asn_type.Characters.{Characters}
 use Rattle.asn1show_printer.specs.declared.asn_type.AsnType.{AsnType}
 use Rattle.asn1show_printer.specs.declared.asn_type.AsnType.TheVariants.{Boolean, GeneralizedTime as OfGeneralizedTime, Text, UtcTime as OfUtcTime, Whole}
@@ -48,10 +49,9 @@ truth_diagnosed x bytes some false f g = record {
 -- ---- contents that conform to each mode or to none
 
 pub none_or_all : (kind : AsnType) (H : Type 0) (s : List ℕ) → ((m : BERMode) → H → AreOfKind kind m s) → ((m : BERMode) → AreOfKind kind m s → H) →
-    (b : Bool) → (IsTrue b ↔ H) → (d : Diagnostic) → is_of_ber d ≡ true → DiagnosesOf kind s (cond b None (Some d))
+    (b : Bool) → (IsTrue b ↔ H) → (d : Diagnostic) → ((m : BERMode) → excludes d m ≡ true) → DiagnosesOf kind s (cond b None (Some d))
 none_or_all kind H s f g true h d is = λ m. f m (h.0 refl)
-none_or_all kind H s f g false h d is =
-    subst (λ k. cond k (InNone (AreOfKind kind) s) (OnlyInBer (AreOfKind kind) s)) (sym is) (λ m w. let k = h.1 (g m w) in absurd (cc))
+none_or_all kind H s f g false h d is = rw (is Der) (rw (is Cer) (rw (is Ber) (λ m w. let k = h.1 (g m w) in absurd (cc))))
 
 -- ---- UTCTime
 
@@ -120,12 +120,14 @@ other_diagnosed s none (Some t) h = local_diagnosed s (moment_of t) none h
 
 -- ---- texts that are always primitive
 
-whole_by : (x : Characters) (c : List ℕ) (b : Bool) → cond b (InNone (AreOfKind (Text x)) c) (OnlyInBer (AreOfKind (Text x)) c) →
-    cond b (InNone (AreOfKind (Whole x)) c) (OnlyInBer (AreOfKind (Whole x)) c)
-whole_by x c true d = d
-whole_by x c false d = record { here = d.here; not_there = d.not_there }
+whole_by : (x : Characters) (c : List ℕ) (canonical b : Bool) →
+    cond canonical (cond b (InNone (AreOfKind (Text x)) c) (OnlyInBer (AreOfKind (Text x)) c)) ⊥ →
+    cond canonical (cond b (InNone (AreOfKind (Whole x)) c) (OnlyInBer (AreOfKind (Whole x)) c)) ⊥
+whole_by x c true true d = d
+whole_by x c true false d = record { here = d.here; not_there = d.not_there }
+whole_by x c false b d = absurd d
 
 -- what is reported of a text's characters doesn't depend on whether it may be cut into segments
 pub whole_diagnosed : (x : Characters) (c : List ℕ) (r : Option Diagnostic) → DiagnosesOf (Text x) c r → DiagnosesOf (Whole x) c r
 whole_diagnosed x c None d = d
-whole_diagnosed x c (Some r) d = whole_by x c (is_of_ber r) d
+whole_diagnosed x c (Some r) d = whole_by x c (is_of_canonical r) (is_of_ber r) d

@@ -5,3 +5,9 @@ pub mod Types
 pub mod Contents
 pub mod Components
 pub mod WholeElement
+pub mod NoteSteps
+pub mod SegmentSteps
+pub mod Rules
+pub mod Reports
+pub mod Tags
+pub mod LineSteps

@@ -1,9 +1,8 @@
 -- The elements that contents begin with are known one by one.
-use Rattle.std.proofs.Common.{subst, ◌≡◌, ◌↔◌, ◌<◌, ◌≤◌, ℕ, List, [], ◌∷◌, ◌++◌, length, true, false, inl, inr, refl, sym, ap, ◌∙◌, arith, length-append}
+use Rattle.std.proofs.Common.{subst, ◌≡◌, ◌↔◌, ◌<◌, ◌≤◌, ℕ, List, [], ◌∷◌, length, true, false, inl, inr, refl, sym, ap, ◌∙◌, arith, length-append}
 use Rattle.std.specs.Prelude.{Bool, IsTrue, ◌⊎◌}
 use Rattle.yasna_base.specs.declared.mode.BERMode.TheVariants.{Ber}
 use Rattle.yasna_base.specs.Grammar.{max_depth}
-use Rattle.yasna_base.specs.Raw.{RawValue, IsRaw}
 use Rattle.yasna_base.proofs.Identifier.{begins_some}
 use Rattle.yasna_base.proofs.Raw.{raw_exact, raw_starts}
 use Rattle.yasna_base.proofs.Lists.{prefixes_same}

@@ -83,11 +83,10 @@ pub record IsNoted (old : Conformance) (d : Diagnostic) (new : Conformance) : Ty
   pub der : new.der ≡ old.der && not (excludes d Der)
   pub cer : new.cer ≡ old.cer && not (excludes d Cer)
 
--- the conformance of an element after a diagnostic, if there is one; what is in a string doesn't count for the whole
-abbrev pub IsDiagnosed : Bool → Conformance → Option Diagnostic → Conformance → Type 0
-IsDiagnosed in_string old None new = new ≡ old
-IsDiagnosed true old (Some d) new = new ≡ old
-IsDiagnosed false old (Some d) new = IsNoted old d new
+-- the conformance of an element after a diagnostic, if there is one
+abbrev pub IsDiagnosed : Conformance → Option Diagnostic → Conformance → Type 0
+IsDiagnosed old None new = new ≡ old
+IsDiagnosed old (Some d) new = IsNoted old d new
 
 -- whether elements are as asked: in a check, in its rules
 abbrev pub accepts : Selection → Conformance → Bool

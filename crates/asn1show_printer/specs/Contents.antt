@@ -1,5 +1,5 @@
 -- The contents of primitive elements of a type (X.690, 8 and 11), and their diagnostics.
-use Rattle.std.specs.Prelude.{◌≡◌, ◌⊎◌, ◌≤◌, ◌%◌, ℕ, Bool, true, false, cond, List, [], ◌∷◌, length, Option, Some, None, pos, IsUtf8}
+use Rattle.std.specs.Prelude.{◌≡◌, ◌⊎◌, ◌≤◌, ◌%◌, ◌&&◌, ℕ, Bool, cond, List, [], ◌∷◌, length, Option, Some, None, pos, IsUtf8}
 use Rattle.std.specs.Char.{IsScalar}
 use Rattle.std.specs.Int.Digits.{number_from_digits}
 use Rattle.std.specs.List.{AllByRecursion, flat_map}
@@ -16,17 +16,13 @@ use Rattle.yasna_times.specs.Models.{utc_of}
 use Rattle.yasna_times.specs.Moment.{Moment}
 use Rattle.yasna_times.specs.UtcTime.{SpellsUtcTime}
 use Rattle.yasna_times.specs.declared.models.utc_time.UTCTime.{UTCTime}
+use Rattle.asn1show_printer.specs.Conformance.{excludes}
 use Rattle.asn1show_printer.specs.declared.asn_type.Characters.{Characters}
 use Rattle.asn1show_printer.specs.declared.asn_type.Characters.TheVariants.{Utf8, Numeric, Printable, Ia5, Visible, Bmp, Universal, Other}
 use Rattle.asn1show_printer.specs.declared.asn_type.AsnType.{AsnType}
 use Rattle.asn1show_printer.specs.declared.asn_type.AsnType.TheVariants.{Boolean, Integer, Bits, Octets, Null, Oid, Relative, Real, Text, Whole, UtcTime, GeneralizedTime, Set, Parts, Unknown}
 use Rattle.asn1show_printer.specs.declared.line.LineBuffer.{LineBuffer}
 use Rattle.asn1show_printer.specs.declared.diagnostic.Diagnostic.{Diagnostic}
-use Rattle.asn1show_printer.specs.declared.diagnostic.Diagnostic.TheVariants.{LongLength, Indefinite, Segments, Truth, Padding, Order, TagOrder, Time, Local}
-use Rattle.asn1show_printer.specs.declared.diagnostic.Diagnostic.TheVariants.{HasParts, HasNoParts, Segment, AfterUnusedBits, Boolean as NoBoolean, Number}
-use Rattle.asn1show_printer.specs.declared.diagnostic.Diagnostic.TheVariants.{Null as NoNull, Bits as NoBits, NoComponent, LongComponent, CutComponent, NoTime}
-use Rattle.asn1show_printer.specs.declared.diagnostic.Diagnostic.TheVariants.{Characters as NoCharacters, Definite, Uncut, NotInModule}
-use Rattle.asn1show_printer.specs.declared.diagnostic.Diagnostic.TheVariants.{Missing, Repeated, Bounds, Size, Item, Default, LastZeros}
 
 -- the contents of a bit string: the count of unused bits in the last octet, and the octets
 pub record AreBits (m : BERMode) (c : List ℕ) : Type 0 where
@@ -97,40 +93,13 @@ AreOfKind Set m c = ⊥
 AreOfKind Parts m c = ⊥
 AreOfKind Unknown m c = Unit {0}
 
--- whether a diagnostic says `not BER`, and not only `not DER`
+-- whether an element with a diagnostic is in no mode, by what it says of BER
 abbrev pub is_of_ber : Diagnostic → Bool
-is_of_ber LongLength = false
-is_of_ber Indefinite = false
-is_of_ber Segments = false
-is_of_ber Truth = false
-is_of_ber Padding = false
-is_of_ber Order = false
-is_of_ber TagOrder = false
-is_of_ber Time = false
-is_of_ber Local = false
-is_of_ber HasParts = true
-is_of_ber HasNoParts = true
-is_of_ber Segment = true
-is_of_ber AfterUnusedBits = true
-is_of_ber NoBoolean = true
-is_of_ber Number = true
-is_of_ber NoNull = true
-is_of_ber NoBits = true
-is_of_ber NoComponent = true
-is_of_ber LongComponent = true
-is_of_ber CutComponent = true
-is_of_ber NoCharacters = true
-is_of_ber NoTime = true
-is_of_ber Definite = false
-is_of_ber Uncut = false
-is_of_ber NotInModule = false
-is_of_ber Missing = false
-is_of_ber Repeated = false
-is_of_ber Bounds = false
-is_of_ber Size = false
-is_of_ber Item = false
-is_of_ber Default = false
-is_of_ber LastZeros = false
+is_of_ber d = excludes d Ber
+
+-- whether it is in neither DER nor CER
+abbrev pub is_of_canonical : Diagnostic → Bool
+is_of_canonical d = excludes d Der && excludes d Cer
 
 -- contents conform to each mode
 abbrev pub InAll : (BERMode → List ℕ → Type 0) → List ℕ → Type 0
@@ -148,7 +117,7 @@ InNone C c = (m : BERMode) → C m c → ⊥
 -- the modes that contents conform to, by their diagnostic or its absence
 abbrev pub DiagnosesOf : AsnType → List ℕ → Option Diagnostic → Type 0
 DiagnosesOf kind c None = InAll (AreOfKind kind) c
-DiagnosesOf kind c (Some r) = cond (is_of_ber r) (InNone (AreOfKind kind) c) (OnlyInBer (AreOfKind kind) c)
+DiagnosesOf kind c (Some r) = cond (is_of_canonical r) (cond (is_of_ber r) (InNone (AreOfKind kind) c) (OnlyInBer (AreOfKind kind) c)) ⊥
 
 -- whether an append to a line ran out of memory
 abbrev pub line_is_out_of_memory : LineBuffer → Bool

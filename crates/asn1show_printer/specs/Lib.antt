@@ -6,3 +6,7 @@ pub mod Selection
 pub mod Dump
 pub mod Headers
 pub mod Pieces
+pub mod Segments
+pub mod Rules
+pub mod Reports
+pub mod Lines

@@ -1,10 +1,12 @@
 -- The elements that contents begin with (X.690, 8.1), their order (10.3 and 11.6), and how CER cuts strings (9.2).
 use Rattle.std.specs.Borrow.{Bor}
-use Rattle.std.specs.Prelude.{◌≡◌, ◌≤◌, ◌⊎◌, ℕ, Bool, true, false, not, List, [], ◌∷◌, ◌++◌, length, Option, Some, None, IsTrue}
+use Rattle.std.specs.Prelude.{◌≡◌, ◌↔◌, ◌≢◌, ◌≤◌, ◌⊎◌, ℕ, Bool, true, false, not, List, [], ◌∷◌, ◌++◌, length, map, Option, Some, None, IsTrue, MatchOption, ⊤}
+use Rattle.std.specs.List.{AllPairs}
 use Rattle.std.specs.Ordering.{is_lt}
 use Rattle.yasna_base.specs.declared.mode.BERMode.TheVariants.{Ber}
 use Rattle.yasna_base.specs.declared.tag.PCBit.{PCBit}
 use Rattle.yasna_base.specs.declared.tag.PCBit.TheVariants.{Primitive, Constructed}
+use Rattle.yasna_base.specs.declared.tag.Tag.{Tag}
 use Rattle.yasna_base.specs.Grammar.{max_depth}
 use Rattle.yasna_base.specs.Order.{octets_cmp, tag_cmp}
 use Rattle.yasna_base.specs.Raw.{RawValue, IsRaw}
@@ -64,10 +66,24 @@ abbrev pub order_said : Bool → Diagnostic
 order_said true = Order
 order_said false = TagOrder
 
+abbrev pub tag_of_piece : RawPiece → Tag
+tag_of_piece p = p.value.tag
+
+-- two of the elements have one tag, as no components of a SET have (X.680, 27.3)
+abbrev pub RepeatsTag : List RawPiece → Type 0
+RepeatsTag ps = AllPairs (λ t u. t ≢ u) (map tag_of_piece ps) → ⊥
+
+-- what is said of elements in contents that are in neither order, by whether two of them have one tag
+pub record SaysOfDisorder (c : List ℕ) (d : Diagnostic) : Type 0 where
+  pub repeated : Bool
+  pub said : d ≡ order_said repeated
+  pub repeats : (ps : List RawPiece) → ArePieces c ps → IsTrue repeated ↔ RepeatsTag ps
+  pub disorder : (ps : List RawPiece) → ArePieces c ps → AreOrdered ps → ⊥
+
 -- what is said of the order of the elements in contents
 abbrev pub SaysOfOrder : List ℕ → Option Diagnostic → Type 0
 SaysOfOrder c None = (ps : List RawPiece) → ArePieces c ps → AreOrdered ps
-SaysOfOrder c (Some d) = ((repeated : Bool) × (d ≡ order_said repeated)) × ((ps : List RawPiece) → ArePieces c ps → AreOrdered ps → ⊥)
+SaysOfOrder c (Some d) = SaysOfDisorder c d
 
 -- a segment of a string is primitive, and has as many octets as CER allows
 pub record IsFullSegment (p : RawPiece) : Type 0 where
@@ -96,9 +112,14 @@ abbrev pub SaysUnless : Type 0 → Diagnostic → Option Diagnostic → Type 0
 SaysUnless P d None = P
 SaysUnless P d (Some e) = (e ≡ d) × (P → ⊥)
 
+-- nothing is said but this
+abbrev pub IsNoneOr : Diagnostic → Option Diagnostic → Type 0
+IsNoneOr d said = MatchOption said ⊤ (λ e. e ≡ d)
+
 -- what is said for CER of an element with this bit, size and contents, of whether its type is a string (9.1 and 9.2): a string of one piece isn't too
 -- long, a constructed element has indefinite length, and the segments of a string are cut as CER cuts them
 abbrev pub SaysOfCer : PCBit → Option ℕ → List ℕ → Bool → Option Diagnostic → Type 0
 SaysOfCer Primitive size c is_string said = SaysUnless (IsTrue is_string → length c ≤ octets_full) Uncut said
 SaysOfCer Constructed (Some k) c is_string said = said ≡ Some Definite
-SaysOfCer Constructed None c is_string said = (ps : List RawPiece) → ArePieces c ps → SaysUnless (IsTrue is_string → AreCerSegments ps) Uncut said
+SaysOfCer Constructed None c is_string said =
+    IsNoneOr Uncut said × ((ps : List RawPiece) → ArePieces c ps → SaysUnless (IsTrue is_string → AreCerSegments ps) Uncut said)

@@ -68,6 +68,16 @@ is_utf8 (Text characters) = are_utf8 characters
 is_utf8 (Whole characters) = are_utf8 characters
 is_utf8 _ = false
 
+-- whether a type is SET, or SET OF
+abbrev pub is_set : AsnType → Bool
+is_set Set = true
+is_set other = false
+
+-- whether a type isn't known
+abbrev pub is_unknown : AsnType → Bool
+is_unknown Unknown = true
+is_unknown other = false
+
 -- whether a type may be cut into segments
 abbrev pub is_segmented : Option Diagnostic → Bool
 is_segmented None = false

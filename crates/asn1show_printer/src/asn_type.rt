@@ -1,6 +1,6 @@
 //! The types of X.680: their characters, and whether they have parts.
 ghost use Rattle.std.specs.Prelude.{◌≡◌, ◌≤◌, get_or};
-ghost use Rattle.asn1show_printer.specs.Types.{diagnostic_if_constructed, is_string, is_utf8, type_with, universal_types};
+ghost use Rattle.asn1show_printer.specs.Types.{diagnostic_if_constructed, is_set, is_string, is_unknown, is_utf8, type_with, universal_types};
 ghost use Rattle.asn1show_printer.specs.declared.asn_type.AsnType.TheVariants.{Unknown};
 
 use crate::diagnostic::Diagnostic;
@@ -137,6 +137,20 @@ impl AsnType {
             | AsnType::GeneralizedTime => Some(Diagnostic::Segments),
             AsnType::Set | AsnType::Parts | AsnType::Unknown => None,
         }
+    }
+
+    /// Whether the type is SET, or SET OF.
+    pub fn is_set(self) -> bool
+        ensures { result ≡ is_set self }
+    {
+        matches!(self, AsnType::Set)
+    }
+
+    /// Whether the type isn't known.
+    pub fn is_unknown(self) -> bool
+        ensures { result ≡ is_unknown self }
+    {
+        matches!(self, AsnType::Unknown)
     }
 
     /// Whether the type may be cut into segments.

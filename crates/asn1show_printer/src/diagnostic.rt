@@ -2,6 +2,7 @@
 ghost use Rattle.std.specs.Prelude.{◌≡◌, if◌then◌else◌, true, Some, None};
 ghost use Rattle.yasna_base.specs.declared.mode.BERMode.{BERMode};
 ghost use Rattle.asn1show_printer.specs.Conformance.{conforms, excludes, is_of_module, AreMet, IsNoted};
+ghost use Rattle.asn1show_printer.specs.Lines.{modes_text};
 
 use yasna_base::mode::BERMode;
 
@@ -214,7 +215,9 @@ impl Conformance {
     }
 
     /// The names of the encoding rules.
-    pub fn modes(self) -> &'static str {
+    pub fn modes(self) -> &'static str
+        ensures { result.now ≡ modes_text self }
+    {
         match (self.ber, self.der, self.cer) {
             (false, _, _) => "none",
             (true, false, false) => "BER",

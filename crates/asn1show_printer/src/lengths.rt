@@ -1,10 +1,11 @@
 //! The octets that headers take (X.690, 8.1.2, 8.1.3 and 10.1).
-ghost use Rattle.std.specs.Prelude.{◌≡◌, ◌+◌, ◌<◌, ◌≤◌, IsTrue, length};
+ghost use Rattle.std.specs.Prelude.{◌≡◌, ◌↔◌, ◌+◌, ◌<◌, ◌≤◌, IsTrue, length, not};
 ghost use Rattle.yasna_base.specs.Digits.{base128, digits};
 ghost use Rattle.yasna_base.specs.Identifier.{identifier};
 ghost use Rattle.yasna_base.specs.declared.tag.PCBit.{PCBit};
 ghost use Rattle.yasna_base.specs.Length.{shortest_length};
 ghost use Rattle.asn1show_printer.specs.Headers.{SaysOfLength};
+ghost use Rattle.asn1show_printer.specs.Rules.{IsShort};
 
 use asn1show_walk::Item;
 use yasna_base::tag::Tag;
@@ -57,7 +58,8 @@ fn identifier_length(tag: Tag) -> usize
 
 /// Whether an element's length takes more octets than it needs.
 pub fn is_long(item: &Item<'_>) -> bool
-    ensures { SaysOfLength item.now result }
+    ensures said { SaysOfLength item.now result }
+    ensures short { IsTrue (not result) ↔ IsShort item.now.tag item.now.bit item.now.header item.now.size }
 {
     let Some(size) = item.size else {
         return false;

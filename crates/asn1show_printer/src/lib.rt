@@ -10,12 +10,15 @@
 //! | `module_parts` | what a module says of an element besides its names |
 //! | `lengths` | the octets that headers take |
 //! | `sets` | the order of a SET, and how CER cuts strings |
+//! | `segments` | the segments of strings |
+//! | `defects` | what is wrong with an element by X.690 |
 //! | `diagnostic` | diagnostics of elements, and the conformance of the whole |
 //! | `selection` | what is shown of elements |
 //! | `extraction` | the bytes of an element |
 //! | `line` | a line as it is made |
 //! | `output` | where lines are written |
 //! | `type_names` | names of types |
+//! | `notes` | what is noted of an element |
 //! | `report` | what is written of an element |
 //! | `head` | the beginning of a line |
 //! | `dump` | the octets of an element beside its line |
@@ -25,6 +28,7 @@
 #![tactic(auto)]
 
 mod asn_type;
+mod defects;
 mod diagnostic;
 mod dump;
 mod elements;
@@ -33,9 +37,11 @@ mod head;
 mod lengths;
 mod line;
 mod module_parts;
+mod notes;
 mod output;
 mod printer;
 mod report;
+mod segments;
 mod selection;
 mod sets;
 mod type_names;

@@ -1,6 +1,7 @@
 //! A line as it is made.
-ghost use Rattle.std.specs.Prelude.{◌≡◌, true, length, IfErr};
+ghost use Rattle.std.specs.Prelude.{◌≡◌, true, false, length, IfErr, OnOk};
 ghost use Rattle.asn1show_walk.specs.Errors.{IsExternal};
+ghost use Rattle.asn1show_printer.specs.Lines.{Appends};
 
 use asn1show_walk::WalkError;
 use std::alloc::Global;
@@ -38,14 +39,22 @@ impl LineBuffer {
     }
 
     /// Appends octets as they are.
-    pub fn write_all(&mut self, octets: &[u8]) {
-        if !self.out_of_memory && self.text.extend_from_slice(octets).is_err() {
-            self.fail_out_of_memory();
+    pub fn write_all(&mut self, octets: &[u8])
+        ensures { Appends self.old octets.now self.new }
+    {
+        if self.out_of_memory {
+            return;
+        }
+        match self.text.extend_from_slice(octets) {
+            Ok(()) => {}
+            Err(_) => self.fail_out_of_memory(),
         }
     }
 
     /// Appends a text as it is.
-    pub fn write_str(&mut self, text: &str) {
+    pub fn write_str(&mut self, text: &str)
+        ensures { Appends self.old text.now self.new }
+    {
         self.write_all(text.as_bytes())
     }
 
@@ -58,7 +67,8 @@ impl LineBuffer {
 
     /// The text, if there was memory for all of it.
     pub fn text(&self) -> Result<&[u8], WalkError>
-        ensures { IfErr result IsExternal }
+        ensures external { IfErr result IsExternal }
+        ensures whole { OnOk result (self.now.out_of_memory ≡ false) }
     {
         if self.out_of_memory {
             return Err(WalkError::Memory);

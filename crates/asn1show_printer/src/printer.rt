@@ -1,7 +1,9 @@
 //! The lines.
-ghost use Rattle.std.specs.Prelude.{IfErr};
+ghost use Rattle.std.specs.Prelude.{◌≡◌, [], IfErr, IfOk, None};
+ghost use Rattle.asn1show_printer.specs.Reports.{IsReportOf};
 ghost use Rattle.asn1show_walk.specs.Errors.{IsExternal};
 
+use crate::diagnostic::Conformance;
 use crate::dump::write_dump;
 use crate::extraction::part_of;
 use crate::head::{write_place, write_type};
@@ -45,7 +47,8 @@ impl<'w, 'n, W: Write + Drop> Printer<'w, 'n, W> {
         style: Style<'n>,
         source: Source<'n>,
     ) -> Result<Printer<'w, 'n, W>, WalkError>
-        ensures { IfErr result IsExternal }
+        ensures report { style.entry.view.schema ≡ None → IfOk result (λ p. IsReportOf p.report []) }
+        ensures external { IfErr result IsExternal }
     {
         if matches!(style.view.selection, Selection::Elements(_)) {
             output.write_heading()?;
@@ -59,34 +62,12 @@ impl<'w, 'n, W: Write + Drop> Printer<'w, 'n, W> {
         })
     }
 
-    // Writes the beginning of an element's line, up to its value.
-    fn write_head(&mut self, item: &Item<'_>, label: Label<'_>) {
-        let line = &mut self.report.line;
-        write_place(line, item);
-        if self.style.view.has_dump {
-            write_dump(line, self.style.alloc, self.source.bytes, item);
-        }
-        write_type(line, item, label)
-    }
-
-    // Takes a part of an element, if it is the one that is asked for.
-    fn extract(&mut self, item: &Item<'_>) {
-        let Selection::Bytes(at, part) = self.style.view.selection else {
-            return;
-        };
-        if item.offset != at {
-            return;
-        }
-        if let Some(part) = part_of(self.source.mode, self.source.bytes, item, part) {
-            self.extracted.write_all(part)
-        }
-    }
-
-    /// Notes the encoding rules that the elements conform to, and prints them, but in a check.
+    /// Notes the conformance of the elements, prints their encoding rules, but in a check, and returns the conformance.
     ///
     /// `Err` says that memory ran out, or that a write failed.
-    pub fn finish(self) -> Result<(), WalkError>
-        ensures { IfErr result IsExternal }
+    pub fn finish(self) -> Result<Conformance, WalkError>
+        ensures conformance { IfOk result (λ c. c ≡ self.entry.report.conformance) }
+        ensures external { IfErr result IsExternal }
     {
         let Printer {
             output,
@@ -95,32 +76,81 @@ impl<'w, 'n, W: Write + Drop> Printer<'w, 'n, W> {
             extracted,
             ..
         } = self;
+        let conformance = report.conformance();
         report.finish(output);
-        match style.view.selection {
+        let written = match style.view.selection {
             Selection::Elements(_) => {
                 report.print_conformance();
                 output.write(&mut report.line)
             }
             Selection::Defects(_) => Ok(()),
-            Selection::Bytes(..) => output.write_bytes(extracted.text()?),
+            Selection::Bytes(..) => write_extracted(output, &extracted),
+        };
+        match written {
+            Ok(()) => Ok(conformance),
+            Err(error) => Err(error),
         }
     }
 }
 
-impl<'w, 'n, W: Write + Drop> Visitor for Printer<'w, 'n, W> {
-    ghost use Rattle.std.specs.Prelude.{None};
-    ghost use Rattle.asn1show_walk.specs.Errors.{IsExternal};
+// Writes the bytes that were extracted.
+fn write_extracted<W: Write + Drop>(
+    output: &mut Output<W>,
+    extracted: &LineBuffer,
+) -> Result<(), WalkError>
+    ensures { IfErr result IsExternal }
+{
+    match extracted.text() {
+        Ok(bytes) => output.write_bytes(bytes),
+        Err(error) => Err(error),
+    }
+}
 
-    ghost visited = { λ _. None };
+// Writes the beginning of an element's line, up to its value.
+fn write_head(
+    line: &mut LineBuffer,
+    style: Style<'_>,
+    source: Source<'_>,
+    item: &Item<'_>,
+    label: Label<'_>,
+) {
+    write_place(line, item);
+    if style.view.has_dump {
+        write_dump(line, style.alloc, source.bytes, item);
+    }
+    write_type(line, item, label)
+}
+
+// Takes a part of an element, if it is the one that is asked for.
+fn extract(extracted: &mut LineBuffer, style: Style<'_>, source: Source<'_>, item: &Item<'_>) {
+    let Selection::Bytes(at, part) = style.view.selection else {
+        return;
+    };
+    if item.offset != at {
+        return;
+    }
+    if let Some(part) = part_of(source.mode, source.bytes, item, part) {
+        extracted.write_all(part)
+    }
+}
+
+impl<'w, 'n, W: Write + Drop> Visitor for Printer<'w, 'n, W> {
+    ghost use Rattle.asn1show_walk.specs.Errors.{IsExternal};
+    ghost use Rattle.asn1show_printer.specs.Reports.{IsReportOf};
+
+    ghost visited = { λ p lines. IsReportOf p.report lines };
 
     ghost rejects = { λ _. IsExternal };
 
     fn visit(&mut self, item: &Item<'_>) -> Result<(), WalkError> {
         let label = self.report.label(item);
-        self.write_head(item, label);
-        self.report.describe(item, label);
+        write_head(&mut self.report.line, self.style, self.source, item, label);
+        match self.report.describe(item, label) {
+            Ok(()) => {}
+            Err(error) => return Err(error),
+        }
         self.report.print_diagnostics();
-        self.extract(item);
+        extract(&mut self.extracted, self.style, self.source, item);
         if self.report.count(item) {
             self.output.write(&mut self.report.line)
         } else {

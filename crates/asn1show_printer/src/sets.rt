@@ -1,15 +1,16 @@
 //! The order of a SET and of a SET OF (X.690, 10.3 and 11.6), and how CER cuts strings (X.690, 9.2).
-ghost use Rattle.std.specs.Prelude.{◌≡◌, ◌↔◌, ◌≤◌, IsTrue, IfOk, List, length, true, false};
+ghost use Rattle.std.specs.Prelude.{◌≡◌, ◌≢◌, ◌↔◌, ◌≤◌, IsTrue, IfOk, List, length, map, true, false};
 ghost use Rattle.yasna_base.specs.Octets.{octets_full};
-ghost use Rattle.asn1show_printer.specs.Pieces.{RawPiece, piece_of, ArePieces, may_follow, Ascend, SaysOfOrder, order_said, IsFullSegment, IsLastSegment, AreCerSegments, SaysUnless, SaysOfCer};
+ghost use Rattle.asn1show_printer.specs.Pieces.{RawPiece, piece_of, ArePieces, may_follow, Ascend, SaysOfOrder, order_said, IsFullSegment, IsLastSegment, AreCerSegments, RepeatsTag, tag_of_piece, IsNoneOr, SaysUnless, SaysOfCer};
+ghost use Rattle.std.specs.List.{AllPairs};
 ghost use Rattle.asn1show_printer.specs.declared.diagnostic.Diagnostic.TheVariants.{Uncut};
 
 use crate::diagnostic::Diagnostic;
-use crate::elements::{Elements, first_element};
+use crate::elements::first_element;
 use asn1show_walk::Item;
 use std::alloc::{AllocError, Global};
 use yasna_base::bytes::order::compare_octets;
-use yasna_base::tag::PCBit;
+use yasna_base::tag::{PCBit, Tag};
 use yasna_bytes::bytes::walk::RawElement;
 
 // An order that DER has for the elements of a SET.
@@ -50,16 +51,37 @@ fn are_in_order(order: SetOrder, contents: &[u8]) -> bool
     true
 }
 
-// Whether two of the elements in contents have one tag, as no components of a SET have (X.680, 27.3).
-fn has_repeated_tag(alloc: Global, contents: &[u8]) -> Result<bool, AllocError> {
+// The tags of the elements in contents.
+fn tags_in(alloc: Global, contents: &[u8]) -> Result<Vec<Tag>, AllocError>
+    ensures { IfOk result (λ tags. (ps : List RawPiece) → ArePieces contents.now ps → tags.items ≡ map tag_of_piece ps) }
+{
     let mut tags = Vec::new(alloc);
-    for element in Elements::new(contents) {
+    let mut left = contents;
+    while let Some((element, rest)) = first_element(left) {
         tags.push(element.tag)?;
+        left = rest;
     }
+    Ok(tags)
+}
+
+// Whether two of some tags are the same.
+fn has_equal(mut tags: Vec<Tag>) -> Result<bool, AllocError>
+    ensures { IfOk result (λ said. IsTrue said ↔ (AllPairs (λ t u. t ≢ u) tags.items → ⊥)) }
+{
     let count = tags.len();
     tags.sort()?;
     tags.dedup();
     Ok(tags.len() < count)
+}
+
+// Whether two of the elements in contents have one tag, as no components of a SET have (X.680, 27.3).
+fn has_repeated_tag(alloc: Global, contents: &[u8]) -> Result<bool, AllocError>
+    ensures { IfOk result (λ said. (ps : List RawPiece) → ArePieces contents.now ps → IsTrue said ↔ RepeatsTag ps) }
+{
+    match tags_in(alloc, contents) {
+        Ok(tags) => has_equal(tags),
+        Err(error) => Err(error),
+    }
 }
 
 // What is wrong with elements in no order, of whether two have one tag.
@@ -80,7 +102,10 @@ pub fn order_of(alloc: Global, contents: &[u8]) -> Result<Option<Diagnostic>, Al
     if are_in_order(SetOrder::Tags, contents) || are_in_order(SetOrder::Octets, contents) {
         return Ok(None);
     }
-    Ok(Some(order_diagnostic(has_repeated_tag(alloc, contents)?)))
+    match has_repeated_tag(alloc, contents) {
+        Ok(repeated) => Ok(Some(order_diagnostic(repeated))),
+        Err(error) => Err(error),
+    }
 }
 
 // The most octets of a string in one piece.
@@ -145,6 +170,7 @@ fn is_cut(is_segmented: bool, contents: &[u8]) -> bool
 
 // What is said of a string in a CER encoding, of whether its contents are its segments.
 fn string_diagnostic(is_string: bool, is_segmented: bool, contents: &[u8]) -> Option<Diagnostic>
+    ensures said { IsNoneOr Uncut result }
     ensures whole { is_segmented ≡ false → SaysUnless (IsTrue is_string → length contents.now ≤ octets_full) Uncut result }
     ensures cut { is_segmented ≡ true → (ps : List RawPiece) → ArePieces contents.now ps → SaysUnless (IsTrue is_string → AreCerSegments ps) Uncut result }
 {

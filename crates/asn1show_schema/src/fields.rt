@@ -1,4 +1,6 @@
 //! The elements that are open, and what the next one is.
+ghost use Rattle.std.specs.Prelude.{◌≡◌};
+ghost use Rattle.asn1show_schema.specs.declared.schema.Contents.TheVariants.{Any};
 
 use crate::matching::{Match, match_in, rest_of};
 use crate::schema::{Contents, Name, Number, Schema, ValueType};
@@ -49,7 +51,9 @@ pub struct Fields<'m> {
 
 impl<'m> Label<'m> {
     /// The label of an element of which no module says anything.
-    pub fn unnamed() -> Label<'m> {
+    pub fn unnamed() -> Label<'m>
+        ensures { result.contents ≡ Any }
+    {
         Label {
             part: b"",
             alternative: b"",

@@ -12,19 +12,15 @@ use Rattle.yasna_base.specs.Header.{OpensAt, definite_end, indefinite_end}
 use Rattle.yasna_base.specs.Identifier.{identifier, end_tag}
 use Rattle.yasna_base.proofs.Digits.{bytes_prefix}
 use Rattle.yasna_base.proofs.Identifier.{identifier_some}
-use Rattle.asn1show_walk.specs.Listing.{Line, VisitsLines, with_length, with_zeros, Below, ListsElement, ListsCount, ListsOne, ListsBytes}
+use Rattle.asn1show_walk.specs.Listing.{Line, VisitsLines, with_length, with_zeros, ShowsContents, Below, ListsElement, ListsCount, ListsOne, ListsBytes}
 
 -- nothing was visited
-pub visits_none : (a : Option (List Line)) → VisitsLines a a []
-visits_none None = tt
-visits_none (Some xs) = sym (append-nil xs)
+pub visits_none : (a : List Line → Type 0) → VisitsLines a a []
+visits_none a = λ before x. subst a (sym (append-nil before)) x
 
 -- lines were visited, and then more
-pub visits_more : (a b c : Option (List Line)) (xs ys : List Line) → VisitsLines a b xs → VisitsLines b c ys → VisitsLines a c (xs ++ ys)
-visits_more None b c xs ys p q = tt
-visits_more (Some zs) None c xs ys p q = absurd p
-visits_more (Some zs) (Some us) None xs ys p q = absurd q
-visits_more (Some zs) (Some us) (Some vs) xs ys p q = q ∙ ap (λ l. l ++ ys) p ∙ append_assoc zs xs ys
+pub visits_more : (a b c : List Line → Type 0) (xs ys : List Line) → VisitsLines a b xs → VisitsLines b c ys → VisitsLines a c (xs ++ ys)
+visits_more a b c xs ys p q = λ before x. subst c (append_assoc before xs ys) (q (before ++ xs) (p before x))
 
 -- no elements are listed by no lines
 pub lists_none : (n : ℕ) (m : BERMode) (w : Bool) (o : ℕ) → ListsBytes n m w o [] []
@@ -69,9 +65,9 @@ longer i y h = omega (arith, h, length-append i y)
 -- an element of definite length is listed by its line and the lines of the elements in it
 pub counted_reported : (m : BERMode) (n k : ℕ) (w : Bool) (line : Line) (s c r : List ℕ) (below : List Line) → k + 1 ≡ n → line.depth + n ≡ 101 →
     line.in_string ≡ w → (line.tag ≡ end_tag → ⊥) → OpensAt m line.tag line.bit s c (definite_end r) → line.header + (length c + length r) ≡ length s →
-    line.size ≡ Some (length c) → Below (λ v. ListsBytes k m v) w line.tag line.bit (line.offset + line.header) c below →
+    line.size ≡ Some (length c) → line.contents ≡ c → Below (λ v. ListsBytes k m v) w line.tag line.bit (line.offset + line.header) c below →
     Reported n m w line.offset s r (line ∷ below)
-counted_reported m n k w line s c r below e d i ne x h z y =
+counted_reported m n k w line s c r below e d i ne x h z shown y =
     let b = identifier line.tag line.bit ++ (x.l ++ c) in
     let j : s ≡ b ++ r = x.joined ∙ regroup (identifier line.tag line.bit) x.l c r in
     record {
@@ -90,6 +86,7 @@ counted_reported m n k w line s c r below e d i ne x h z y =
         contents = c;
         in_bytes = x.in_bytes;
         header = with_length (record { taken = x.taken; l = x.l; spelled = x.spelled; joined = refl }) (count_of line.header b c r s j h) z;
+        shown = subst (λ size. ShowsContents size c line.contents) (sym z) shown;
         inner = y;
       });
     }
@@ -104,8 +101,8 @@ below_of Cer k w t Primitive o c ls x y = absurd x
 -- an element of indefinite length is listed by its line and the lines of the elements in it, where two zeros end them
 pub uncounted_reported : (m : BERMode) (n k : ℕ) (w : Bool) (line : Line) (s d c r : List ℕ) (below : List Line) → k + 1 ≡ n → line.depth + n ≡ 101 →
     line.in_string ≡ w → (line.tag ≡ end_tag → ⊥) → OpensAt m line.tag line.bit s d indefinite_end → line.header + length d ≡ length s →
-    line.size ≡ None → d ≡ c ++ (0 ∷ 0 ∷ r) → ListsBytes k m w (line.offset + line.header) c below → Reported n m w line.offset s r (line ∷ below)
-uncounted_reported m n k w line s d c r below e f i ne x h z g y =
+    line.size ≡ None → d ≡ c ++ (0 ∷ 0 ∷ r) → line.contents ≡ d → ListsBytes k m w (line.offset + line.header) c below → Reported n m w line.offset s r (line ∷ below)
+uncounted_reported m n k w line s d c r below e f i ne x h z g shown y =
     let b = identifier line.tag line.bit ++ (128 ∷ (c ++ end_of_contents)) in
     let j : s ≡ b ++ r = x.joined ∙ ap (λ u. identifier line.tag line.bit ++ (128 ∷ u)) g ∙ regroup_zeros (identifier line.tag line.bit) c r in
     let a : length d ≡ length c + (2 + length r) = ap length g ∙ length-append c (0 ∷ 0 ∷ r) ∙ (omega arith) in
@@ -125,6 +122,7 @@ uncounted_reported m n k w line s d c r below e f i ne x h z g y =
         contents = c;
         in_bytes = bytes_prefix c (0 ∷ 0 ∷ r) (subst IsBytes g x.in_bytes);
         header = with_zeros (record { taken = x.taken; joined = refl }) (omega (arith, a, h, ap length j ∙ length-append b r)) z;
+        shown = subst (λ size. ShowsContents size c line.contents) (sym z) (r, shown ∙ g);
         inner = below_of m k w line.tag line.bit (line.offset + line.header) c below x.taken y;
       });
     }

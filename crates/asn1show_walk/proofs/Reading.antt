@@ -15,14 +15,14 @@ use Rattle.asn1show_walk.specs.declared.listing.place.Context.{Context}
 use Rattle.asn1show_walk.proofs.Lines.{visits_none, visits_more, lists_none, lists_more, counted_reported, uncounted_reported}
 
 -- the elements from p to q were visited
-pub record Reached (context : Context) (p q : Place) (old new : Option (List Line)) : Type 0 where
+pub record Reached (context : Context) (p q : Place) (old new : List Line → Type 0) : Type 0 where
   pub bytes : List ℕ
   pub lines : List Line
   pub further : IsFurther p bytes q
   pub visits : VisitsLines old new lines
   pub lists : ListsBytes context.levels context.mode context.in_string p.offset bytes lines
 
-pub reached_none : (context : Context) (p : Place) (a : Option (List Line)) → Reached context p p a a
+pub reached_none : (context : Context) (p : Place) (a : List Line → Type 0) → Reached context p p a a
 reached_none context p a = record {
   bytes = [];
   lines = [];
@@ -31,7 +31,7 @@ reached_none context p a = record {
   lists = lists_none context.levels context.mode context.in_string p.offset;
 }
 
-pub reached_more : (context : Context) (p q r : Place) (a b c : Option (List Line)) → Reached context p q a b → ElementVisited context q r b c → Reached context p r a c
+pub reached_more : (context : Context) (p q r : Place) (a b c : List Line → Type 0) → Reached context p q a b → ElementVisited context q r b c → Reached context p r a c
 reached_more context p q r a b c x y = record {
   bytes = x.bytes ++ y.bytes;
   lines = x.lines ++ y.lines;
@@ -44,19 +44,19 @@ reached_more context p q r a b c x y = record {
       (subst (λ z. ListsOne context.levels context.mode context.in_string z y.bytes y.lines) x.further.offset y.lists);
 }
 
-pub reached_end : (context : Context) (p q r : Place) (w : Bool) (a b : Option (List Line)) → Reached context p q a b → EndsAt w q r → ContentsVisited context p w r a b
+pub reached_end : (context : Context) (p q r : Place) (w : Bool) (a b : List Line → Type 0) → Reached context p q a b → EndsAt w q r → ContentsVisited context p w r a b
 reached_end context p q r w a b x y =
     record { bytes = x.bytes; lines = x.lines; end = q; further = x.further; ends = y; visits = x.visits; lists = x.lists }
 
 -- counted contents were visited to their end
-pub reported_whole : (context : Context) (p q : Place) (a b : Option (List Line)) → (x : ContentsVisited context p true q a b) →
+pub reported_whole : (context : Context) (p q : Place) (a b : List Line → Type 0) → (x : ContentsVisited context p true q a b) →
     ListsBytes context.levels context.mode context.in_string p.offset p.left.now x.lines
 reported_whole context p q a b x =
     let e : p.left.now ≡ x.bytes = x.further.joined ∙ ap (λ z. x.bytes ++ z) (x.ends.0) ∙ append-nil x.bytes in
     subst (λ z. ListsBytes context.levels context.mode context.in_string p.offset z x.lines) (sym e) x.lists
 
 -- an input was visited, from its first place on
-pub reported_input : (context : Context) (m : BERMode) (p q : Place) (s : List ℕ) (a b : Option (List Line)) → context.mode ≡ m → context.levels ≡ 101 →
+pub reported_input : (context : Context) (m : BERMode) (p q : Place) (s : List ℕ) (a b : List Line → Type 0) → context.mode ≡ m → context.levels ≡ 101 →
     context.in_string ≡ false → p.left.now ≡ s → p.offset ≡ 0 → (x : ContentsVisited context p true q a b) → ListsBytes 101 m false 0 s x.lines
 reported_input context m p q s a b is_mode is_levels is_outside is_left is_first x =
     let one = subst (λ z. ListsBytes context.levels z context.in_string p.offset p.left.now x.lines) is_mode (reported_whole context p q a b x) in
@@ -71,7 +71,7 @@ if_ok (Ok x) P Q f p = f x p
 if_ok (Err e) P Q f p = tt
 
 -- an element of definite length was visited, and the elements in it
-pub element_counted : (context : Context) (p q : Place) (o : OpenedItem) (a b d : Option (List Line)) (r : List ℕ) → OpensItem context p o →
+pub element_counted : (context : Context) (p q : Place) (o : OpenedItem) (a b d : List Line → Type 0) (r : List ℕ) → OpensItem context p o →
     end_found o.end ≡ definite_end r → VisitsLines a b (line_of o.item ∷ []) → BelowVisited context o.item b d → q.left.now ≡ r →
     q.offset + length r ≡ p.offset + length p.left.now → ElementVisited context p q a d
 element_counted context p q o a b d r x e h y i j =
@@ -80,7 +80,7 @@ element_counted context p q o a b d r x e h y i j =
     subst (λ z. o.item.header + (length o.item.contents.now + length (following z)) ≡ length p.left.now) e x.header in
     let counts : o.item.size ≡ Some (length o.item.contents.now) = x.counts ∙ ap (λ z. counted_length z (length o.item.contents.now)) e in
     let t = counted_reported context.mode context.levels y.levels context.in_string (line_of o.item) p.left.now o.item.contents.now r y.lines y.deeper x.depth
-    x.in_string x.not_end opens fits counts y.below in
+    x.in_string x.not_end opens fits counts refl y.below in
     record {
       bytes = t.bytes;
       lines = line_of o.item ∷ y.lines;
@@ -94,7 +94,7 @@ element_counted context p q o a b d r x e h y i j =
     }
 
 -- an element of indefinite length was visited, and the elements in it
-pub element_uncounted : (context inner : Context) (p i q : Place) (o : OpenedItem) (a b d : Option (List Line)) → OpensItem context p o →
+pub element_uncounted : (context inner : Context) (p i q : Place) (o : OpenedItem) (a b d : List Line → Type 0) → OpensItem context p o →
     end_found o.end ≡ indefinite_end → VisitsLines a b (line_of o.item ∷ []) → inner.mode ≡ context.mode → inner.levels + 1 ≡ context.levels →
     inner.in_string ≡ context.in_string → i.left.now ≡ o.item.contents.now → i.offset ≡ o.item.offset + o.item.header →
     ContentsVisited inner i false q b d → ElementVisited context p q a d
@@ -108,7 +108,7 @@ element_uncounted context inner p i q o a b d x e h f g j k l y =
     (subst (λ z. ListsBytes inner.levels inner.mode z i.offset y.bytes y.lines) j y.lists) in
     let same = subst (λ z. ListsBytes inner.levels z context.in_string (o.item.offset + o.item.header) y.bytes y.lines) f lists in
     let t = uncounted_reported context.mode context.levels inner.levels context.in_string (line_of o.item) p.left.now o.item.contents.now y.bytes q.left.now y.lines g
-    x.depth x.in_string x.not_end opens (omega (arith, fits)) counts ends same in
+    x.depth x.in_string x.not_end opens (omega (arith, fits)) counts ends refl same in
     record {
       bytes = t.bytes;
       lines = line_of o.item ∷ y.lines;
@@ -131,7 +131,7 @@ element_uncounted context inner p i q o a b d x e h f g j k l y =
     }
 
 -- nothing in a primitive element was visited
-pub nothing_reported : (context : Context) (i : Item) (a : Option (List Line)) → 1 ≤ context.levels → i.bit ≡ Primitive → BelowVisited context i a a
+pub nothing_reported : (context : Context) (i : Item) (a : List Line → Type 0) → 1 ≤ context.levels → i.bit ≡ Primitive → BelowVisited context i a a
 nothing_reported context i a l e = record {
   lines = [];
   visits = visits_none a;
@@ -147,7 +147,7 @@ string_lists I i p ls (in_octets t c o) x = octets t (subst (λ z. I z i.content
 string_lists I i p ls (in_bits t c o) x = bits p.left.now t c (subst (λ z. I z p.left.now ls) o x)
 
 -- the elements in a string were visited
-pub string_reported : (context inner : Context) (i : Item) (p q : Place) (a b : Option (List Line)) → i.bit ≡ Primitive → inner.mode ≡ context.mode →
+pub string_reported : (context inner : Context) (i : Item) (p q : Place) (a b : List Line → Type 0) → i.bit ≡ Primitive → inner.mode ≡ context.mode →
     inner.levels + 1 ≡ context.levels → inner.in_string ≡ true → IsInString i p → ContentsVisited inner p true q a b → BelowVisited context i a b
 string_reported context inner i p q a b e f g w s y =
     let one = subst (λ z. ListsBytes inner.levels z inner.in_string p.offset p.left.now y.lines) f (reported_whole inner p q a b y) in

@@ -51,7 +51,7 @@ if_err (Ok x) P Q f p = tt
 if_err (Err e) P Q f p = f e p
 
 -- an element that was visited is well formed
-pub visited_element : (context : Context) (p q : Place) (a b : Option (List Line)) → ElementVisited context p q a b → ElementBefore context p q
+pub visited_element : (context : Context) (p q : Place) (a b : List Line → Type 0) → ElementVisited context p q a b → ElementBefore context p q
 visited_element context p q a b x =
     let v = one_formed context.levels context.mode context.in_string p.offset x.bytes x.lines x.lists in
     (v.0, record { prefix = x.bytes; joined = x.further.joined; member = v.1 })
@@ -69,7 +69,7 @@ abbrev pub GoesOn : Context → Place → Place → Bool → Type 0
 GoesOn context p q w = ClosesWell context.levels context.mode w p.left.now → ClosesWell context.levels context.mode w q.left.now
 
 -- contents that end after an element end from there on too
-pub closes_after : (context : Context) (p q : Place) (w : Bool) (a b : Option (List Line)) → ElementVisited context p q a b → GoesOn context p q w
+pub closes_after : (context : Context) (p q : Place) (w : Bool) (a b : List Line → Type 0) → ElementVisited context p q a b → GoesOn context p q w
 closes_after context p q w a b x y =
     let v = one_formed context.levels context.mode context.in_string p.offset x.bytes x.lines x.lists in
     closes_first context.levels context.mode w v.0 x.bytes q.left.now p.left.now v.1 x.further.joined (before_first p.left.now y)
@@ -79,7 +79,7 @@ first_is_there n m w s none (here d) = absurd (none d)
 first_is_there n m w s none (further v b r x e y) = (v, r, record { prefix = b; joined = e; member = x })
 
 -- where they neither end nor go on they don't end
-pub not_closed : (context : Context) (p q : Place) (w : Bool) (a b : Option (List Line)) (o : ℕ) (k : ASN1ErrorKind) → Reached context p q a b →
+pub not_closed : (context : Context) (p q : Place) (w : Bool) (a b : List Line → Type 0) (o : ℕ) (k : ASN1ErrorKind) → Reached context p q a b →
     GoesOn context p q w → (EndsHere w q.left.now → ⊥) → NoElement context q o k → NotClosed context p w o k
 not_closed context p q w a b o k x f none y =
     let j = lists_formed context.levels context.mode context.in_string p.offset x.bytes x.lines x.lists in

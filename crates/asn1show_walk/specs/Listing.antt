@@ -1,5 +1,5 @@
 -- The lines that list elements (X.690, 8.1).
-use Rattle.std.specs.Prelude.{◌≡◌, ◌⊎◌, ℕ, zero, suc, ◌+◌, ◌^◌, ◌<◌, Bool, true, List, [], ◌∷◌, ◌++◌, length, Option, Some, None, ⊤}
+use Rattle.std.specs.Prelude.{◌≡◌, ◌⊎◌, ℕ, zero, suc, ◌+◌, ◌^◌, ◌<◌, Bool, true, List, [], ◌∷◌, ◌++◌, length, Option, Some, None}
 use Rattle.yasna_base.specs.Bits.{bits_tag}
 use Rattle.yasna_base.specs.Digits.{IsBytes}
 use Rattle.yasna_base.specs.Element.{Definite, Indefinite}
@@ -11,7 +11,8 @@ use Rattle.yasna_base.specs.declared.tag.PCBit.{PCBit}
 use Rattle.yasna_base.specs.declared.tag.PCBit.TheVariants.{Primitive, Constructed}
 use Rattle.yasna_base.specs.declared.tag.Tag.{Tag}
 
--- an element's offset, the octets of its header and of its contents, and its depth
+-- an element's offset, the octets of its header and the count of those of its contents, its depth, and its contents, with all bytes that are left if its
+-- length is indefinite
 pub record Line : Type 0 where
   pub offset : ℕ
   pub header : ℕ
@@ -20,12 +21,16 @@ pub record Line : Type 0 where
   pub in_string : Bool
   pub tag : Tag
   pub bit : PCBit
+  pub contents : List ℕ
 
--- the lines visited grow by these lines, where they are known
-abbrev pub VisitsLines : Option (List Line) → Option (List Line) → List Line → Type 0
-VisitsLines None new ls = ⊤
-VisitsLines (Some xs) None ls = ⊥
-VisitsLines (Some xs) (Some ys) ls = ys ≡ xs ++ ls
+-- what holds before these lines were visited, of those visited until then, holds after them, of all of these
+abbrev pub VisitsLines : (List Line → Type 0) → (List Line → Type 0) → List Line → Type 0
+VisitsLines old new ls = (before : List Line) → old before → new (before ++ ls)
+
+-- a line shows the contents c: alone, or before two zeros if the length is indefinite
+abbrev pub ShowsContents : Option ℕ → List ℕ → List ℕ → Type 0
+ShowsContents None c shown = (after : List ℕ) × (shown ≡ c ++ (0 ∷ 0 ∷ after))
+ShowsContents (Some size) c shown = shown ≡ c
 
 -- b is an element with a header of h octets and the contents c, and len is its length where that is definite
 pub data IsHeaded (m : BERMode) (t : Tag) (bit : PCBit) (c b : List ℕ) (h : ℕ) (len : Option ℕ) : Type 0 where
@@ -55,6 +60,7 @@ pub record ListsElement (Inner : Bool → ℕ → List ℕ → List Line → Typ
   pub contents : List ℕ
   pub in_bytes : IsBytes contents
   pub header : IsHeaded m line.tag line.bit contents b line.header line.size
+  pub shown : ShowsContents line.size contents line.contents
   pub inner : Below Inner w line.tag line.bit (o + line.header) contents below
 
 -- lines list a prefix of s by Before, and after it a last piece by One

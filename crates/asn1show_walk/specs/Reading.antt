@@ -26,7 +26,7 @@ use Rattle.asn1show_walk.specs.declared.listing.place.Context.{Context}
 
 -- the line of an element whose header was read
 abbrev pub line_of : Item → Line
-line_of i = record { offset = i.offset; header = i.header; size = i.size; depth = i.depth; in_string = i.in_string; tag = i.tag; bit = i.bit }
+line_of i = record { offset = i.offset; header = i.header; size = i.size; depth = i.depth; in_string = i.in_string; tag = i.tag; bit = i.bit; contents = i.contents.now }
 
 -- the length of contents that end so, where it is definite
 abbrev pub counted_length : ContentsEnd → ℕ → Option ℕ
@@ -70,7 +70,7 @@ EndsAt true p q = (p.left.now ≡ []) × (q.left.now ≡ []) × (q.offset ≡ p.
 EndsAt false p q = IsFurther p (0 ∷ 0 ∷ []) q
 
 -- the elements from p to the end of contents were visited, and q is after that end
-pub record ContentsVisited (context : Context) (p : Place) (is_counted : Bool) (q : Place) (old new : Option (List Line)) : Type 0 where
+pub record ContentsVisited (context : Context) (p : Place) (is_counted : Bool) (q : Place) (old new : List Line → Type 0) : Type 0 where
   pub bytes : List ℕ
   pub lines : List Line
   pub end : Place
@@ -80,7 +80,7 @@ pub record ContentsVisited (context : Context) (p : Place) (is_counted : Bool) (
   pub lists : ListsBytes context.levels context.mode context.in_string p.offset bytes lines
 
 -- the element at p was visited, and q is after it
-pub record ElementVisited (context : Context) (p q : Place) (old new : Option (List Line)) : Type 0 where
+pub record ElementVisited (context : Context) (p q : Place) (old new : List Line → Type 0) : Type 0 where
   pub bytes : List ℕ
   pub lines : List Line
   pub some : 1 ≤ length bytes
@@ -89,7 +89,7 @@ pub record ElementVisited (context : Context) (p q : Place) (old new : Option (L
   pub lists : ListsOne context.levels context.mode context.in_string p.offset bytes lines
 
 -- the elements in the contents of an element were visited
-pub record BelowVisited (context : Context) (i : Item) (old new : Option (List Line)) : Type 0 where
+pub record BelowVisited (context : Context) (i : Item) (old new : List Line → Type 0) : Type 0 where
   pub lines : List Line
   pub visits : VisitsLines old new lines
   pub levels : ℕ

@@ -1,5 +1,5 @@
 //! Elements one after the other, each reported to a visitor before what is in it (X.690, 8.1).
-ghost use Rattle.std.specs.Prelude.{◌≡◌, ◌+◌, ◌-◌, ◌^◌, ◌<◌, ◌≤◌, ℕ, List, [], ◌∷◌, Option, length, false, true, IsTrue, IfOk, IfErr, OnOk, MatchOption, ⊤};
+ghost use Rattle.std.specs.Prelude.{◌≡◌, ◌+◌, ◌-◌, ◌^◌, ◌<◌, ◌≤◌, ℕ, List, [], ◌∷◌, length, false, true, IsTrue, IfOk, IfErr, OnOk, MatchOption, ⊤};
 ghost use Rattle.yasna_base.specs.Grammar.{max_depth};
 ghost use Rattle.yasna_base.specs.Raw.{IsRaw, IsJoining};
 ghost use Rattle.asn1show_walk.specs.Listing.{Line, VisitsLines, ListsBytes};
@@ -27,8 +27,8 @@ use yasna_bytes::bytes::header::{ContentsEnd, end_of_contents};
 pub trait Visitor {
     ghost use Rattle.asn1show_walk.specs.declared.error.WalkError.{WalkError};
 
-    // The lines of the elements that were visited, where they are known.
-    ghost visited: { Self → Option (List Line) };
+    // What holds of the lines of the elements that were visited.
+    ghost visited: { Self → List Line → Type 0 } = { λ _ _. ⊤ };
 
     // The errors with which the visitor rejects an element.
     ghost rejects: { Self → WalkError → Type 0 };

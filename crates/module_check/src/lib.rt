@@ -97,10 +97,7 @@ impl<'n> Checker<'n> {
 }
 
 impl<'n> Visitor for Checker<'n> {
-    ghost use Rattle.std.specs.Prelude.{None};
     ghost use Rattle.asn1show_walk.specs.Errors.{IsExternal};
-
-    ghost visited = { λ _. None };
 
     ghost rejects = { λ _. IsExternal };
 
@@ -109,7 +106,7 @@ impl<'n> Visitor for Checker<'n> {
             return Ok(());
         }
         let label = self.report.label(item);
-        self.report.describe(item, label);
+        self.report.describe(item, label)?;
         self.note(item)?;
         self.report.discard()
     }

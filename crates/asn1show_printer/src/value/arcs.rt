@@ -1,6 +1,8 @@
 //! Object identifiers with their dots (X.690, 8.19 and 8.20).
 ghost use Rattle.std.specs.Prelude.{◌≡◌, ◌↔◌, nat_lt, true, IsTrue};
-ghost use Rattle.asn1show_printer.specs.Contents.{AreSubidentifiers, is_of_ber};
+ghost use Rattle.yasna_base.specs.declared.mode.BERMode.{BERMode};
+ghost use Rattle.asn1show_printer.specs.Conformance.{excludes};
+ghost use Rattle.asn1show_printer.specs.Contents.{AreSubidentifiers};
 
 use crate::diagnostic::Diagnostic;
 use crate::line::LineBuffer;
@@ -38,7 +40,7 @@ pub fn are_components(contents: &[u8]) -> bool
 
 /// What is wrong with contents that aren't components.
 pub fn components_diagnostic(contents: &[u8]) -> Diagnostic
-    ensures { is_of_ber result ≡ true }
+    ensures { (m : BERMode) → excludes result m ≡ true }
 {
     match contents.last() {
         None => Diagnostic::NoComponent,

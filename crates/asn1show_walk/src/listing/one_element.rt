@@ -12,10 +12,6 @@ use crate::listing::{Visitor, list_element};
 struct Silent;
 
 impl Visitor for Silent {
-    ghost use Rattle.std.specs.Prelude.{None};
-
-    ghost visited = { λ _. None };
-
     ghost rejects = { λ _ _. ⊥ };
 
     fn visit(&mut self, _item: &Item<'_>) -> Result<(), WalkError> {
