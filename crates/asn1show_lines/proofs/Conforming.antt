@@ -1,16 +1,12 @@
 -- The conformance of elements that were visited.
-use Rattle.std.proofs.Common.{◌≡◌, ℕ, List, [], false, Ok, sym, subst}
-use Rattle.std.specs.Prelude.{Result, IfOk, reverse}
+use Rattle.std.proofs.Common.{◌≡◌, ℕ, List, [], false, sym, subst}
+use Rattle.std.specs.Prelude.{reverse}
 use Rattle.yasna_base.specs.Grammar.{max_depth}
 use Rattle.yasna_base.specs.declared.mode.BERMode.{BERMode}
 use Rattle.asn1show_walk.specs.Listing.{Line, VisitsLines, ListsBytes}
 use Rattle.asn1show_printer.specs.Reports.{ConformsTo, IsConformanceOf, IsReportOf}
 use Rattle.asn1show_printer.specs.declared.diagnostic.Conformance.{Conformance}
 use Rattle.asn1show_printer.specs.declared.report.Report.{Report}
-
--- what holds where a result is Ok holds of its value
-pub at_ok : {A E : Type 0} (r : Result A E) (x : A) (P : A → Type 0) → r ≡ Ok x → IfOk r P → P x
-at_ok r x P e p = subst (λ z. IfOk z P) e p
 
 -- a report of no elements that visited those of bytes has their conformance
 pub conforming : (mode : BERMode) (bytes : List ℕ) (old new : Report) (c : Conformance) →

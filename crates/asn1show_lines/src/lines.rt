@@ -79,11 +79,12 @@ fn show_html<W: Write + Drop>(
     ensures fails { IfErr result (λ f. WalkFails IsExternal (NoElements max_depth mode bytes.now) f) }
 {
     let mut page = HtmlPrinter::begin(out, style, Source { mode, bytes });
-    let listed = list_input(bytes, mode, &mut page);
-    let conformance = page.finish(listed.is_ok())?;
-    match listed {
-        Ok(()) => Ok(conformance),
-        Err(error) => Err(error),
+    match list_input(bytes, mode, &mut page) {
+        Ok(()) => page.finish(true),
+        Err(error) => match page.finish(false) {
+            Ok(_) => Err(error),
+            Err(failed) => Err(failed),
+        },
     }
 }
 
