@@ -7,7 +7,7 @@
 use crate::kind::ElementType;
 use crate::parts::{Frame, Group, Piece};
 use crate::reads::{Body, Read, Then};
-use crate::steps::{Ask, Choice, Step};
+use crate::steps::{Ask, Choice, SetAsk, Step};
 use crate::strings::Class;
 use yasna::tags::{TAG_BOOLEAN, TAG_INTEGER, TAG_NULL, TAG_SEQUENCE};
 use yasna::{ASN1ErrorKind, Tag, TagClass};
@@ -285,8 +285,8 @@ pub static CALLS: [(&str, Read); 67] = [
         Read(
             Then::Shown,
             Body::Set(&[
-                Choice::Next(&[TAG_INTEGER], INTEGER),
-                Choice::Next(&[TAG_BOOLEAN], BOOLEAN),
+                Choice(SetAsk::Next, &[TAG_INTEGER], INTEGER),
+                Choice(SetAsk::Next, &[TAG_BOOLEAN], BOOLEAN),
             ]),
         ),
     ),
@@ -295,8 +295,8 @@ pub static CALLS: [(&str, Read); 67] = [
         Read(
             Then::Shown,
             Body::Set(&[
-                Choice::Next(&[TAG_INTEGER], INTEGER),
-                Choice::Next(&[TAG_INTEGER], INTEGER),
+                Choice(SetAsk::Next, &[TAG_INTEGER], INTEGER),
+                Choice(SetAsk::Next, &[TAG_INTEGER], INTEGER),
             ]),
         ),
     ),
@@ -305,13 +305,23 @@ pub static CALLS: [(&str, Read); 67] = [
         Read(
             Then::Shown,
             Body::Set(&[
-                Choice::Next(&[C28], Piece(Frame::Implicit(C28), ElementType::I64)),
-                Choice::Next(
+                Choice(
+                    SetAsk::Next,
+                    &[C28],
+                    Piece(Frame::Implicit(C28), ElementType::I64),
+                ),
+                Choice(
+                    SetAsk::Next,
                     &[C345678],
                     Piece(Frame::Explicit(C345678), ElementType::Bytes),
                 ),
-                Choice::Next(&[C27], Piece(Frame::Explicit(C27), ElementType::I64)),
-                Choice::Next(
+                Choice(
+                    SetAsk::Next,
+                    &[C27],
+                    Piece(Frame::Explicit(C27), ElementType::I64),
+                ),
+                Choice(
+                    SetAsk::Next,
                     &[C345677],
                     Piece(Frame::Explicit(C345677), ElementType::Bytes),
                 ),
@@ -322,14 +332,18 @@ pub static CALLS: [(&str, Read); 67] = [
         "set_seqel",
         Read(
             Then::Shown,
-            Body::Set(&[Choice::Next(&[TAG_SEQUENCE], Piece(Frame::Plain, ElementType::Nests))]),
+            Body::Set(&[Choice(
+                SetAsk::Next,
+                &[TAG_SEQUENCE],
+                Piece(Frame::Plain, ElementType::Nests),
+            )]),
         ),
     ),
     (
         "set_der",
         Read(
             Then::Shown,
-            Body::Set(&[Choice::Next(&[TAG_SEQUENCE], RAW)]),
+            Body::Set(&[Choice(SetAsk::Next, &[TAG_SEQUENCE], RAW)]),
         ),
     ),
     (
@@ -337,8 +351,8 @@ pub static CALLS: [(&str, Read); 67] = [
         Read(
             Then::Shown,
             Body::Set(&[
-                Choice::AskedInVain(&[TAG_BOOLEAN]),
-                Choice::Next(&[TAG_INTEGER], INTEGER),
+                Choice(SetAsk::AskedInVain, &[TAG_BOOLEAN], IDLE),
+                Choice(SetAsk::Next, &[TAG_INTEGER], INTEGER),
             ]),
         ),
     ),
@@ -348,8 +362,8 @@ pub static CALLS: [(&str, Read); 67] = [
         Read(
             Then::Shown,
             Body::Set(&[
-                Choice::Optional(&[TAG_INTEGER], INTEGER),
-                Choice::Default(false),
+                Choice(SetAsk::Optional, &[TAG_INTEGER], INTEGER),
+                Choice(SetAsk::Default(false), &[TAG_BOOLEAN], BOOLEAN),
             ]),
         ),
     ),
@@ -358,8 +372,8 @@ pub static CALLS: [(&str, Read); 67] = [
         Read(
             Then::Shown,
             Body::Set(&[
-                Choice::Next(&[TAG_BOOLEAN], BOOLEAN),
-                Choice::Next(&[TAG_NULL, TAG_INTEGER], INTEGER),
+                Choice(SetAsk::Next, &[TAG_BOOLEAN], BOOLEAN),
+                Choice(SetAsk::Next, &[TAG_NULL, TAG_INTEGER], INTEGER),
             ]),
         ),
     ),
@@ -368,8 +382,8 @@ pub static CALLS: [(&str, Read); 67] = [
         Read(
             Then::Shown,
             Body::Set(&[
-                Choice::Optional(&[TAG_INTEGER], INTEGER),
-                Choice::Default(true),
+                Choice(SetAsk::Optional, &[TAG_INTEGER], INTEGER),
+                Choice(SetAsk::Default(true), &[TAG_BOOLEAN], BOOLEAN),
             ]),
         ),
     ),
@@ -378,8 +392,8 @@ pub static CALLS: [(&str, Read); 67] = [
         Read(
             Then::Shown,
             Body::Set(&[
-                Choice::DefaultDiscarded(true),
-                Choice::Next(&[TAG_INTEGER], INTEGER),
+                Choice(SetAsk::DefaultDiscarded(true), &[TAG_BOOLEAN], BOOLEAN),
+                Choice(SetAsk::Next, &[TAG_INTEGER], INTEGER),
             ]),
         ),
     ),
@@ -387,24 +401,27 @@ pub static CALLS: [(&str, Read); 67] = [
         "set_other",
         Read(
             Then::Shown,
-            Body::Set(&[Choice::Optional(&[TAG_INTEGER], BOOLEAN)]),
+            Body::Set(&[Choice(SetAsk::Optional, &[TAG_INTEGER], BOOLEAN)]),
         ),
     ),
     (
         "set_memory",
         Read(
             Then::Shown,
-            Body::Set(&[Choice::Optional(&[TAG_INTEGER], WITHOUT_MEMORY)]),
+            Body::Set(&[Choice(SetAsk::Optional, &[TAG_INTEGER], WITHOUT_MEMORY)]),
         ),
     ),
     (
         "swallow_set",
         Read(
             Then::Discarded,
-            Body::Set(&[Choice::OptionalDiscarded(&[TAG_INTEGER], WITHOUT_MEMORY)]),
+            Body::Set(&[Choice(SetAsk::OptionalDiscarded, &[TAG_INTEGER], WITHOUT_MEMORY)]),
         ),
     ),
-    ("set_any", Read(Then::Shown, Body::Set(&[Choice::Any]))),
+    (
+        "set_any",
+        Read(Then::Shown, Body::Set(&[Choice(SetAsk::Any, &[], RAW)])),
+    ),
     // under tags of the caller's (X.690, 8.14)
     (
         "tag3_i64",
@@ -509,13 +526,16 @@ pub static CALLS: [(&str, Read); 67] = [
     ),
     (
         "set_drop",
-        Read(Then::Null, Body::Set(&[Choice::Asked(&[TAG_INTEGER])])),
+        Read(
+            Then::Null,
+            Body::Set(&[Choice(SetAsk::Asked, &[TAG_INTEGER], IDLE)]),
+        ),
     ),
     (
         "set_optidle",
         Read(
             Then::Last,
-            Body::Set(&[Choice::Optional(&[TAG_INTEGER], IDLE)]),
+            Body::Set(&[Choice(SetAsk::Optional, &[TAG_INTEGER], IDLE)]),
         ),
     ),
     // whose callbacks throw errors away, or make them

@@ -13,9 +13,9 @@
 //! callback runs before its end is missed; where it rejects these elements, that is the result.
 
 use crate::line::{Case, VectorLine};
-use crate::outcome::outcome_or_unknown;
-use crate::run::{Report, Verdict};
-use std::alloc::{AllocError, Global};
+use crate::outcome::outcome;
+use crate::run::Verdict;
+use crate::text::Text;
 
 /// What becomes of a vector.
 #[derive(Clone, Copy)]
@@ -26,102 +26,99 @@ pub enum Group {
     Length,
 }
 
-// What was tried, and what failed.
-#[derive(Drop)]
+// How many inputs were tried, and how many failed.
+#[derive(Clone, Copy)]
 struct Tally {
-    text: String,
     tried: u64,
     failed: u64,
 }
 
 /// Checks a group of all lines, and says how many inputs there were.
-pub fn check_group(alloc: Global, group: Group, input: &str) -> Result<Report, AllocError> {
+pub fn check_group(group: Group, input: &str, text: &mut Text) -> Verdict {
     let mut tally = Tally {
-        text: String::new(alloc),
         tried: 0,
         failed: 0,
     };
     for line in input.lines() {
         if let Some(case) = accepted(line) {
-            check_case(alloc, group, &case, &mut tally)?;
+            match case.bytes(text) {
+                Some(bytes) if bytes.len() <= 300 => {
+                    check_bytes(group, case, &bytes, &mut tally, text);
+                }
+                _ => (),
+            }
         }
     }
-    let tried = tally.tried;
-    let failed = tally.failed;
-    let name = match group {
-        Group::Cut => "cuts",
-        Group::Length => "changed lengths",
-    };
-    writeln!(tally.text, "{tried} {name}, {failed} failed")?;
-    Ok(Report {
-        text: tally.text,
-        verdict: Verdict::of(failed),
-    })
-}
-
-// Checks a case with each byte of its argument written out, if these are at most 300.
-fn check_case(
-    alloc: Global,
-    group: Group,
-    case: &Case,
-    tally: &mut Tally,
-) -> Result<(), AllocError> {
-    let Some(bytes) = case.bytes(alloc) else {
-        return Ok(());
-    };
-    let bytes = bytes?;
-    if bytes.len() > 300 {
-        return Ok(());
-    }
-    let digits = hex::encode(alloc, bytes.as_slice())?;
-    match group {
-        Group::Cut => check_prefixes(alloc, case, &digits, tally),
-        Group::Length => {
-            let place = identifier_length(&bytes).saturating_mul(2);
-            let (identifier, length) = digits.split_at_checked(place).unwrap_or((&digits, ""));
-            check_lengths(alloc, case, identifier, length, tally)
-        }
-    }
+    text.push_value(&tally.tried);
+    text.push(match group {
+        Group::Cut => " cuts, ",
+        Group::Length => " changed lengths, ",
+    });
+    text.push_value(&tally.failed);
+    text.push(" failed\n");
+    Verdict::of(tally.failed)
 }
 
 // The case of a line that reads a byte or more and accepts them.
 fn accepted(line: &str) -> Option<Case<'_>> {
-    let line = VectorLine::parse(line)?;
-    let takes_bytes = line.case.takes_bytes() && line.case.arg != "-" && line.case.arg.len() <= 600;
-    if takes_bytes && line.expected.starts_with("ok ") {
-        Some(line.case)
+    let Some(line) = VectorLine::parse(line) else {
+        return None;
+    };
+    let case = line.case;
+    if case.takes_bytes()
+        && case.arg != "-"
+        && case.arg.len() <= 600
+        && line.expected.starts_with("ok ")
+    {
+        Some(case)
     } else {
         None
     }
 }
 
+// Checks a case with these bytes cut, or with another length.
+fn check_bytes(group: Group, case: Case, bytes: &[u8], tally: &mut Tally, text: &mut Text) {
+    let mut digits = Text::with_room(text.allocator());
+    digits.push_bytes(bytes);
+    text.out_of_memory = text.out_of_memory || digits.out_of_memory;
+    match group {
+        Group::Cut => check_prefixes(case, &digits.text, tally, text),
+        Group::Length => {
+            let place = identifier_length(bytes).saturating_mul(2);
+            let (identifier, length) = digits.text.split_at_checked(place).unwrap_or(("", ""));
+            check_lengths(case, identifier, length, tally, text);
+        }
+    }
+}
+
 // Checks each proper prefix of a case's bytes.
-fn check_prefixes(
-    alloc: Global,
-    case: &Case,
-    digits: &str,
-    tally: &mut Tally,
-) -> Result<(), AllocError> {
+fn check_prefixes(case: Case, digits: &str, tally: &mut Tally, text: &mut Text) {
     for end in (0..digits.len()).step_by(2) {
         let prefix = digits.get(..end).unwrap_or("");
-        let expected = prefix_outcome(alloc, case, prefix)?;
-        check(alloc, case, prefix, expected, tally)?;
+        let expected = prefix_outcome(case, prefix, text);
+        check(case, prefix, expected, tally, text);
     }
-    Ok(())
 }
 
 // What a prefix is to return.
-fn prefix_outcome(alloc: Global, case: &Case, prefix: &str) -> Result<&'static str, AllocError> {
+fn prefix_outcome(case: Case, prefix: &str, text: &mut Text) -> &'static str {
     if !prefix.starts_with("3180") {
-        return Ok("err Eof");
+        return "err Eof";
     }
-    let ended = format!(in alloc; "{prefix}0000")?;
-    let whole = outcome_or_unknown(alloc, &with(case, "der", &ended))?;
-    let again = outcome_or_unknown(alloc, &with(case, case.call, &ended))?;
-    if whole.starts_with("ok ") && again.starts_with("err Invalid") {
-        Ok("err Invalid")
+    let alloc = text.allocator();
+    let mut ended = Text::with_room(alloc);
+    ended.push(prefix);
+    ended.push("0000");
+    let whole = outcome(alloc, with(case, "der", &ended.text));
+    let again = outcome(alloc, with(case, case.call, &ended.text));
+    text.out_of_memory = text.out_of_memory
+        || ended.out_of_memory
+        || whole.out_of_memory
+        || again.out_of_memory;
+    if whole.text.starts_with("ok ") && again.text.starts_with("err Invalid") {
+        "err Invalid"
     } else {
-        Ok("err Eof")
+        "err Eof"
     }
 }
 
@@ -171,26 +168,21 @@ static CHANGES: [Change; 5] = [
 ];
 
 // Checks a case's bytes with other first bytes of their length.
-fn check_lengths(
-    alloc: Global,
-    case: &Case,
-    identifier: &str,
-    length: &str,
-    tally: &mut Tally,
-) -> Result<(), AllocError> {
-    let others = length.get(2..).unwrap_or("");
+fn check_lengths(case: Case, identifier: &str, length: &str, tally: &mut Tally, text: &mut Text) {
     let mode = case.mode_name();
     for change in &CHANGES {
         let is_made = change.mode.unwrap_or(mode) == mode
             && length.starts_with(change.from)
             && !length.starts_with(change.to);
         if is_made {
-            let to = change.to;
-            let changed = format!(in alloc; "{identifier}{to}{others}")?;
-            check(alloc, case, &changed, change.expected, tally)?;
+            let mut changed = Text::with_room(text.allocator());
+            changed.push(identifier);
+            changed.push(change.to);
+            changed.push(length.get(2..).unwrap_or(""));
+            text.out_of_memory = text.out_of_memory || changed.out_of_memory;
+            check(case, &changed.text, change.expected, tally, text);
         }
     }
-    Ok(())
 }
 
 // How many bytes the first identifier has (X.690, 8.1.2): one, and where its last five bits are set those from 128 on after it, and
@@ -210,7 +202,7 @@ fn identifier_length(bytes: &[u8]) -> usize {
 }
 
 // A case like this one, of another call and on other bytes.
-fn with<'a>(case: &Case, call: &'a str, bytes: &'a str) -> Case<'a> {
+fn with<'a>(case: Case, call: &'a str, bytes: &'a str) -> Case<'a> {
     Case {
         mode: case.mode,
         call,
@@ -221,26 +213,18 @@ fn with<'a>(case: &Case, call: &'a str, bytes: &'a str) -> Case<'a> {
 }
 
 // Checks what a case's call returns on other bytes.
-fn check(
-    alloc: Global,
-    case: &Case,
-    bytes: &str,
-    expected: &str,
-    tally: &mut Tally,
-) -> Result<(), AllocError> {
+fn check(case: Case, bytes: &str, expected: &str, tally: &mut Tally, text: &mut Text) {
     tally.tried = tally.tried.saturating_add(1);
     let changed = with(case, case.call, bytes);
-    let came = outcome_or_unknown(alloc, &changed)?;
-    if came.as_str() == expected {
-        return Ok(());
+    let came = outcome(text.allocator(), changed);
+    if came.text.as_str() == expected {
+        return;
     }
     tally.failed = tally.failed.saturating_add(1);
-    let mode = changed.mode_name();
-    let call = changed.call;
-    let bytes = changed.arg;
-    let came = came.as_str();
-    writeln!(
-        tally.text,
-        "{mode} {call} {bytes} => {expected}\n    came {came}"
-    )
+    changed.show(text);
+    text.push(" => ");
+    text.push(expected);
+    text.push("\n    came ");
+    text.push_text(&came);
+    text.push("\n");
 }

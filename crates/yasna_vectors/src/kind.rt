@@ -18,14 +18,14 @@
 //! Where there is no text, such a value is read alone, and not made by a call that writes.
 
 use crate::leaf::Leaf;
-use crate::line::bytes_of;
-use crate::nest::{Nested, read_nest, read_nests};
+use crate::line::octets;
+use crate::nest::{Nested, read_nests, read_within};
 use crate::oid::identifier;
+use crate::reads::unbracketed;
 use crate::strings::Class;
-use std::alloc::{AllocError, Global};
-use std::num::ParseIntError;
+use crate::text::Text;
 use yasna::tags::TAG_INTEGER;
-use yasna::{ASN1Error, ASN1ErrorKind, ASN1Result, BERReader, BERReaderSeq};
+use yasna::{ASN1Error, ASN1ErrorKind, ASN1Result, BERReader};
 
 /// What such an element is read as.
 #[derive(Clone, Copy)]
@@ -63,19 +63,25 @@ pub enum ElementType {
 impl ElementType {
     /// Reads such an element.
     pub fn read(self, reader: BERReader) -> ASN1Result<Leaf> {
-        Ok(match self {
-            ElementType::Bool => Leaf::Bool(reader.read_bool()?),
-            ElementType::Enum => Leaf::Enum(reader.read_enum()?),
-            ElementType::I64 => Leaf::I64(reader.read_i64()?),
-            ElementType::I32 => Leaf::I32(reader.read_i32()?),
-            ElementType::I16 => Leaf::I16(reader.read_i16()?),
-            ElementType::I8 => Leaf::I8(reader.read_i8()?),
-            ElementType::U64 => Leaf::U64(reader.read_u64()?),
-            ElementType::U32 => Leaf::U32(reader.read_u32()?),
-            ElementType::U16 => Leaf::U16(reader.read_u16()?),
-            ElementType::U8 => Leaf::U8(reader.read_u8()?),
+        let mut error = None;
+        let noted = &mut error;
+        let leaf = match self {
+            ElementType::Bool => Leaf::Bool(taken(reader.read_bool(), noted)),
+            ElementType::Enum => Leaf::Enum(taken(reader.read_enum(), noted)),
+            ElementType::I64 => Leaf::I64(taken(reader.read_i64(), noted)),
+            ElementType::I32 => Leaf::I32(taken(reader.read_i32(), noted)),
+            ElementType::I16 => Leaf::I16(taken(reader.read_i16(), noted)),
+            ElementType::I8 => Leaf::I8(taken(reader.read_i8(), noted)),
+            ElementType::U64 => Leaf::U64(taken(reader.read_u64(), noted)),
+            ElementType::U32 => Leaf::U32(taken(reader.read_u32(), noted)),
+            ElementType::U16 => Leaf::U16(taken(reader.read_u16(), noted)),
+            ElementType::U8 => Leaf::U8(taken(reader.read_u8(), noted)),
             _ => return self.read_other(reader),
-        })
+        };
+        match error {
+            None => Ok(leaf),
+            Some(kind) => Err(ASN1Error::new(kind)),
+        }
     }
 
     // Reads an element that isn't a number as Rust has it or a BOOLEAN.
@@ -104,105 +110,125 @@ impl ElementType {
     fn read_composed(self, reader: BERReader) -> ASN1Result<Leaf> {
         match self {
             ElementType::Null => read_null(reader),
-            ElementType::Nest(depth) => nested(read_nest(depth, reader)),
-            ElementType::Nests => nested(read_nests(reader)),
-            ElementType::Around => around(reader.read_sequence(read_next_integer)),
-            ElementType::Within => integer(reader.read_sequence(read_next_integer)),
-            ElementType::Choice => read_choice(reader),
-            ElementType::Again => read_again(reader),
+            ElementType::Nest(depth) => nested(read_within(reader, depth), depth, 0),
+            ElementType::Nests => match read_nests(reader) {
+                Ok(nested) => Ok(Leaf::Nested(nested)),
+                Err(error) => Err(error),
+            },
+            ElementType::Around => nested(read_within(reader, 1), 1, 1),
+            ElementType::Within => integer(read_within(reader, 1)),
+            ElementType::Choice => match reader.lookahead_tag() {
+                Ok(tag) if tag == TAG_INTEGER => integer(reader.read_i64()),
+                Ok(_) => read_null(reader),
+                Err(error) => Err(error),
+            },
+            ElementType::Again => match reader.read_i64() {
+                Ok(number) => Ok(Leaf::I64(number)),
+                Err(_) => integer(reader.read_i64()),
+            },
             ElementType::Rejected(kind) => Err(ASN1Error::new(kind)),
             _ => Ok(Leaf::Null),
         }
     }
 
-    /// The value that a text is.
-    pub fn value(self, alloc: Global, text: &str) -> Option<Result<Leaf, AllocError>> {
+    /// The value that a text represents, if it does; without memory for it, that is noted in a result.
+    pub fn value(self, text: &str, came: &mut Text) -> Option<Leaf> {
         match self {
-            ElementType::BigInteger | ElementType::Bits => {
-                let (bytes, others) = text.split_once('/')?;
-                self.value_of_bytes(bytes_of(alloc, bytes)?, others)
-            }
-            ElementType::Bytes | ElementType::Text(_) | ElementType::Raw => self.value_of_bytes(
-                bytes_of(alloc, text)?,
-                "",
-            ),
-            ElementType::Identifier => match identifier(alloc, text) {
-                Ok(identifier) => Some(Ok(Leaf::Identifier(identifier?))),
-                Err(out_of_memory) => Some(Err(out_of_memory)),
+            ElementType::BigInteger | ElementType::Bits => match text.split_once('/') {
+                Some((bytes, others)) => self.value_of_bytes(octets(bytes, came), others),
+                None => None,
             },
-            _ => Some(Ok(self.small(text)?)),
+            ElementType::Bytes | ElementType::Text(_) | ElementType::Raw => {
+                self.value_of_bytes(octets(text, came), "")
+            }
+            ElementType::Identifier => match identifier(text, came) {
+                Some(identifier) => Some(Leaf::Identifier(identifier)),
+                None => None,
+            },
+            _ => self.small(text),
         }
     }
 
-    // The value that bytes are, and what is after them in a text.
-    fn value_of_bytes(
-        self,
-        bytes: Result<Vec<u8>, AllocError>,
-        others: &str,
-    ) -> Option<Result<Leaf, AllocError>> {
-        let bytes = match bytes {
-            Ok(bytes) => bytes,
-            Err(out_of_memory) => return Some(Err(out_of_memory)),
+    // The value that bytes represent, and what is after them in a text.
+    fn value_of_bytes(self, bytes: Option<Vec<u8>>, others: &str) -> Option<Leaf> {
+        let Some(bytes) = bytes else {
+            return None;
         };
-        Some(Ok(match self {
-            ElementType::BigInteger => Leaf::BigInteger(bytes, others.parse().ok()?),
-            ElementType::Bits => Leaf::Bits(bytes, others.parse().ok()?),
-            ElementType::Text(class) => Leaf::Text(class, String::from_utf8(bytes).ok()?),
-            ElementType::Raw => Leaf::Raw(bytes),
-            _ => Leaf::Bytes(bytes),
-        }))
+        match self {
+            ElementType::BigInteger => match others.parse() {
+                Ok(positive) => Some(Leaf::BigInteger(bytes, positive)),
+                Err(_) => None,
+            },
+            ElementType::Bits => match others.parse() {
+                Ok(count) => Some(Leaf::Bits(bytes, count)),
+                Err(_) => None,
+            },
+            ElementType::Text(class) => match String::from_utf8(bytes) {
+                Ok(characters) => Some(Leaf::Text(class, characters)),
+                Err(_) => None,
+            },
+            ElementType::Raw => Some(Leaf::Raw(bytes)),
+            _ => Some(Leaf::Bytes(bytes)),
+        }
     }
 
     // The value of a text for which no memory is asked for.
     fn small(self, text: &str) -> Option<Leaf> {
-        match self {
-            ElementType::Bool => Some(Leaf::Bool(text.parse().ok()?)),
-            ElementType::Null if text == "()" => Some(Leaf::Null),
-            ElementType::Around => {
-                let number = text.strip_prefix('(')?.strip_suffix(')')?;
-                Some(Leaf::Nested(Nested::around(number.parse().ok()?)))
-            }
-            ElementType::Enum
-            | ElementType::I64
-            | ElementType::I32
-            | ElementType::I16
-            | ElementType::I8
-            | ElementType::U64
-            | ElementType::U32
-            | ElementType::U16
-            | ElementType::U8 => self.number(text).ok(),
-            _ => None,
+        let mut is_known = true;
+        let known = &mut is_known;
+        let leaf = match self {
+            ElementType::Bool => Leaf::Bool(parsed(text.parse(), known)),
+            ElementType::Null if text == "()" => Leaf::Null,
+            ElementType::Around => Leaf::Nested(Nested {
+                depth: 1,
+                number: parsed(unbracketed(text).unwrap_or("").parse(), known),
+                brackets: 1,
+            }),
+            ElementType::Enum => Leaf::Enum(parsed(text.parse(), known)),
+            ElementType::I64 => Leaf::I64(parsed(text.parse(), known)),
+            ElementType::I32 => Leaf::I32(parsed(text.parse(), known)),
+            ElementType::I16 => Leaf::I16(parsed(text.parse(), known)),
+            ElementType::I8 => Leaf::I8(parsed(text.parse(), known)),
+            ElementType::U64 => Leaf::U64(parsed(text.parse(), known)),
+            ElementType::U32 => Leaf::U32(parsed(text.parse(), known)),
+            ElementType::U16 => Leaf::U16(parsed(text.parse(), known)),
+            ElementType::U8 => Leaf::U8(parsed(text.parse(), known)),
+            _ => return None,
+        };
+        if is_known { Some(leaf) } else { None }
+    }
+}
+
+// The value that was read; the default where there is none, for which the error is noted.
+fn taken<T: Default>(read: ASN1Result<T>, noted: &mut Option<ASN1ErrorKind>) -> T {
+    match read {
+        Ok(value) => value,
+        Err(error) => {
+            *noted = Some(error.kind());
+            T::default()
         }
     }
+}
 
-    // The number that a text spells.
-    fn number(self, text: &str) -> Result<Leaf, ParseIntError> {
-        Ok(match self {
-            ElementType::Enum => Leaf::Enum(text.parse()?),
-            ElementType::I32 => Leaf::I32(text.parse()?),
-            ElementType::I16 => Leaf::I16(text.parse()?),
-            ElementType::I8 => Leaf::I8(text.parse()?),
-            ElementType::U64 => Leaf::U64(text.parse()?),
-            ElementType::U32 => Leaf::U32(text.parse()?),
-            ElementType::U16 => Leaf::U16(text.parse()?),
-            ElementType::U8 => Leaf::U8(text.parse()?),
-            _ => Leaf::I64(text.parse()?),
-        })
+/// The value that was parsed; the default where there is none, which is noted.
+pub fn parsed<T: Default, E: Drop>(parsed: Result<T, E>, is_known: &mut bool) -> T {
+    match parsed {
+        Ok(value) => value,
+        Err(_) => {
+            *is_known = false;
+            T::default()
+        }
     }
 }
 
-// The SEQUENCEs that were read.
-fn nested(read: ASN1Result<Nested>) -> ASN1Result<Leaf> {
+// The number that was read in so many SEQUENCEs, and how many pairs of brackets are shown.
+fn nested(read: ASN1Result<i64>, depth: u8, brackets: u8) -> ASN1Result<Leaf> {
     match read {
-        Ok(nested) => Ok(Leaf::Nested(nested)),
-        Err(error) => Err(error),
-    }
-}
-
-// A SEQUENCE around the number that was read.
-fn around(read: ASN1Result<i64>) -> ASN1Result<Leaf> {
-    match read {
-        Ok(number) => Ok(Leaf::Nested(Nested::around(number))),
+        Ok(number) => Ok(Leaf::Nested(Nested {
+            depth,
+            number,
+            brackets,
+        })),
         Err(error) => Err(error),
     }
 }
@@ -215,32 +241,10 @@ fn integer(read: ASN1Result<i64>) -> ASN1Result<Leaf> {
     }
 }
 
-// Reads an INTEGER or NULL.
-fn read_choice(reader: BERReader) -> ASN1Result<Leaf> {
-    if reader.lookahead_tag()? == TAG_INTEGER {
-        integer(reader.read_i64())
-    } else {
-        read_null(reader)
-    }
-}
-
-// Reads an INTEGER, and once more where that is rejected.
-fn read_again(reader: BERReader) -> ASN1Result<Leaf> {
-    let first = reader.read_i64();
-    if first.is_ok() {
-        integer(first)
-    } else {
-        integer(reader.read_i64())
-    }
-}
-
 // Reads NULL.
 fn read_null(reader: BERReader) -> ASN1Result<Leaf> {
-    reader.read_null()?;
-    Ok(Leaf::Null)
-}
-
-// Reads an INTEGER, the next part.
-fn read_next_integer(seq: &mut BERReaderSeq) -> ASN1Result<i64> {
-    seq.next().read_i64()
+    match reader.read_null() {
+        Ok(()) => Ok(Leaf::Null),
+        Err(error) => Err(error),
+    }
 }

@@ -19,10 +19,11 @@
 //! | what is absent | `none` | no call |
 ghost use Rattle.std.specs.Prelude.{◌↔◌, ◌≤◌, ◌<◌, ◌+◌, ◌*◌, IsTrue};
 
-use crate::nest::Nested;
+use crate::nest::{Nested, write_within};
 use crate::strings::Class;
 use crate::tag::show_tag;
 use crate::text::Text;
+use std::alloc::AllocError;
 use yasna::models::{GeneralizedTime, ObjectIdentifier, TaggedDerValue, UTCTime};
 use yasna::{ASN1Error, ASN1ErrorKind, ASN1Result, DERWriter, PCBit};
 
@@ -56,6 +57,8 @@ pub enum Leaf {
     Known(String, Vec<u8>),
     Rejected(i64),
     Discarded(i64),
+    /// Shown as NULL, and not written.
+    Nothing,
     Absent,
 }
 
@@ -64,7 +67,6 @@ impl Leaf {
     pub fn show(&self, text: &mut Text) {
         match self {
             Leaf::Bool(flag) => text.push_value(flag),
-            Leaf::Null => text.push("()"),
             Leaf::Enum(number)
             | Leaf::I64(number)
             | Leaf::Rejected(number)
@@ -76,6 +78,7 @@ impl Leaf {
             Leaf::U32(number) => text.push_value(number),
             Leaf::U16(number) => text.push_value(number),
             Leaf::U8(number) => text.push_value(number),
+            Leaf::Nested(nested) => nested.show(text),
             _ => self.show_other(text),
         }
     }
@@ -102,8 +105,8 @@ impl Leaf {
                 text.push_bytes(element);
             }
             Leaf::Tagged(value) => show_tagged(value, text),
-            Leaf::Nested(nested) => nested.show(text),
             Leaf::Known(shown, _) => text.push(shown),
+            Leaf::Null | Leaf::Nothing => text.push("()"),
             _ => text.push("none"),
         }
     }
@@ -135,18 +138,20 @@ impl Leaf {
                 writer.write_bitvec_bytes(bytes, *count)
             }
             Leaf::Text(class, text) => class.write(writer, text),
-            Leaf::Identifier(identifier) => write_identifier(identifier, writer),
+            Leaf::Identifier(identifier) if identifier.is_encodable() => {
+                writer.write_oid(identifier)
+            }
             Leaf::UtcTime(time) => writer.write_utctime(time),
             Leaf::GeneralizedTime(time) => writer.write_generalized_time(time),
             Leaf::Raw(element) | Leaf::Known(_, element) => writer.write_der(element),
             Leaf::Tagged(value) => writer.write_tagged_der(value),
-            Leaf::Nested(nested) => nested.write(writer),
+            Leaf::Nested(nested) => write_within(writer, nested.depth, nested.number),
             Leaf::Rejected(number) => write_rejected(writer, *number),
             Leaf::Discarded(number) => {
                 let _ = write_rejected(writer, *number);
                 Ok(())
             }
-            Leaf::Absent => Ok(()),
+            Leaf::Nothing | Leaf::Absent => Ok(()),
             _ => Err(ASN1Error::new(ASN1ErrorKind::Invalid)),
         }
     }
@@ -160,13 +165,13 @@ fn takes(bytes: usize, bits: usize) -> bool
 }
 
 /// Shows octets.
-pub fn show_octets(octets: &[u8], text: &mut Text) {
+pub fn show_octets(octets: &Vec<u8>, text: &mut Text) {
     text.push("h");
     text.push_bytes(octets);
 }
 
 /// Shows a text.
-pub fn show_text(characters: &str, text: &mut Text) {
+pub fn show_text(characters: &String, text: &mut Text) {
     text.push("s");
     text.push_bytes(characters.as_bytes());
 }
@@ -180,13 +185,21 @@ pub fn show_identifier(identifier: &ObjectIdentifier, text: &mut Text) {
 /// Shows a time.
 pub fn show_utc_time(time: &UTCTime, text: &mut Text) {
     text.push("t");
-    text.push_made(time.to_string(text.allocator()));
+    push_shown(time.to_string(text.allocator()), text);
 }
 
 /// Shows a time.
 pub fn show_generalized_time(time: &GeneralizedTime, text: &mut Text) {
     text.push("t");
-    text.push_made(time.to_string(text.allocator()));
+    push_shown(time.to_string(text.allocator()), text);
+}
+
+// Appends what shows a time, if there was memory for it.
+fn push_shown(made: Result<String, AllocError>, text: &mut Text) {
+    match made {
+        Ok(shown) => text.push(&shown),
+        Err(_) => text.out_of_memory = true,
+    }
 }
 
 // Shows a tag, a bit and a payload.
@@ -197,15 +210,6 @@ fn show_tagged(value: &TaggedDerValue, text: &mut Text) {
         PCBit::Constructed => ".1.",
     });
     text.push_bytes(value.value());
-}
-
-// Writes an object identifier; Err(Invalid) where it has no encoding.
-fn write_identifier(identifier: &ObjectIdentifier, writer: DERWriter<'_>) -> ASN1Result<()> {
-    if identifier.is_encodable() {
-        writer.write_oid(identifier)
-    } else {
-        Err(ASN1Error::new(ASN1ErrorKind::Invalid))
-    }
 }
 
 // Writes a number in a sequence whose closure returns an Err.

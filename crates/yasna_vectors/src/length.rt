@@ -10,85 +10,88 @@
 
 use crate::calls::BIG_NUMBER;
 use crate::leaf::Leaf;
-use crate::parts::{Element, Group, Part, append};
+use crate::parts::{Around, Element, Group, Part};
 use crate::reading::{encoding_of, parse};
 use crate::text::Text;
 use std::alloc::{AllocError, Global};
-use yasna::{ASN1Result, BERMode, construct_der};
+use yasna::BERMode;
 
-/// What the call of this name returns, on so many bytes.
-pub fn outcome(alloc: Global, name: &str, count: usize) -> Text {
-    match sequence(alloc, name, count) {
-        Ok(element) => match encoding(alloc, name, &element) {
-            Ok(encoding) if name == "seqbigint" => read_back(alloc, &encoding, &element),
-            Ok(encoding) => size_and_prefix(alloc, &encoding),
-            Err(error) => Text::rejected(alloc, error.kind()),
-        },
-        Err(_) => Text::when_out_of_memory(alloc),
-    }
-}
-
-// What the call writes of an element.
-fn encoding(alloc: Global, name: &str, element: &Element) -> ASN1Result<Vec<u8>> {
-    match name {
-        "seqseqlen" => {
-            construct_der(
-                alloc,
-                |writer| writer.write_sequence(|seq| element.write(seq.next())),
-            )
-        }
-        _ => encoding_of(alloc, BERMode::Der, element),
-    }
-}
-
-// A SEQUENCE of a value of so many bytes.
-fn sequence(alloc: Global, name: &str, count: usize) -> Result<Element, AllocError> {
-    let leaf = match name {
-        "seqbigint" => Leaf::BigInteger(vec![in alloc; 1u8; count]?, true),
-        _ => Leaf::Bytes(vec![in alloc; 91u8; count]?),
+/// What the call of this name writes, if the argument is a length: a value of so many bytes in a SEQUENCE or two. Without memory for it,
+/// that is noted in a result.
+pub fn element(name: &str, arg: &str, came: &mut Text) -> Option<Element> {
+    let Ok(count) = arg.parse() else {
+        return None;
     };
-    let mut parts = Vec::new(alloc);
-    append(&mut parts, Part::plain(leaf))?;
-    Ok(Element::group(Group::Sequence, parts))
+    let Ok(leaf) = leaf(came.allocator(), name, count) else {
+        came.out_of_memory = true;
+        return None;
+    };
+    match Element::alone(leaf, came) {
+        Some(element) => Some(Element {
+            around: match name {
+                "seqseqlen" => Around::Sequence,
+                _ => Around::Nothing,
+            },
+            group: Group::Sequence,
+            parts: element.parts,
+        }),
+        None => None,
+    }
 }
 
-// How many bytes there are, and the first 16.
-fn size_and_prefix(alloc: Global, encoding: &[u8]) -> Text {
-    let mut text = Text::new(alloc, "ok ");
+// A value of so many bytes.
+fn leaf(alloc: Global, name: &str, count: usize) -> Result<Leaf, AllocError> {
+    match name {
+        "seqbigint" => Ok(Leaf::BigInteger(vec![in alloc; 1u8; count]?, true)),
+        _ => Ok(Leaf::Bytes(vec![in alloc; 91u8; count]?)),
+    }
+}
+
+/// Appends how many bytes are written of an element, and the first 16, if a number is read back as it.
+pub fn append_written(name: &str, element: &Element, text: &mut Text) {
+    match encoding_of(text.allocator(), BERMode::Der, element) {
+        Ok(encoding) if name == "seqbigint" => read_back(&encoding, element, text),
+        Ok(encoding) => append_prefix(&encoding, text),
+        Err(error) => text.reject(error.kind()),
+    }
+}
+
+// Appends how many bytes there are, and the first 16.
+fn append_prefix(encoding: &[u8], text: &mut Text) {
+    text.push("ok ");
     text.push_value(&encoding.len());
     text.push(" ");
     text.push_bytes(encoding.get(..16).unwrap_or(encoding));
-    text
 }
 
-// How many bytes there are, and the first 16, if they end in the number and are read as it.
-fn read_back(alloc: Global, encoding: &[u8], written: &Element) -> Text {
-    match parse(alloc, BERMode::Der, BIG_NUMBER, encoding) {
-        Ok(read) if is_end_of(encoding, number_of(&read), number_of(written)) => {
-            size_and_prefix(alloc, encoding)
+// Appends how many bytes there are, and the first 16, if they end in the number and are read as it.
+fn read_back(encoding: &[u8], written: &Element, text: &mut Text) {
+    match parse(text.allocator(), BERMode::Der, BIG_NUMBER, encoding) {
+        Ok(read) if is_end_of(encoding, &read.parts, &written.parts) => {
+            append_prefix(encoding, text);
         }
-        Ok(_) => Text::new(alloc, "read back as another number"),
-        Err(error) => Text::rejected(alloc, error.kind()),
+        Ok(_) => text.push("read back as another number"),
+        Err(error) => text.reject(error.kind()),
     }
 }
 
-// Whether both are one number, and end the encoding.
-fn is_end_of(encoding: &[u8], read: Option<&[u8]>, written: Option<&[u8]>) -> bool {
+// Whether both are one number that isn't negative, and end the encoding.
+fn is_end_of(encoding: &[u8], read: &[Part], written: &[Part]) -> bool {
     match (read, written) {
-        (Some(read), Some(number)) => read == number && encoding.ends_with(number),
+        (
+            [
+                Part {
+                    leaf: Leaf::BigInteger(read, true),
+                    ..
+                },
+            ],
+            [
+                Part {
+                    leaf: Leaf::BigInteger(number, true),
+                    ..
+                },
+            ],
+        ) => read.as_slice() == number.as_slice() && encoding.ends_with(number.as_slice()),
         _ => false,
-    }
-}
-
-// The contents of the INTEGER that a SEQUENCE holds, if it isn't negative.
-fn number_of(element: &Element) -> Option<&[u8]> {
-    match element.parts()? {
-        [
-            Part {
-                leaf: Leaf::BigInteger(contents, true),
-                ..
-            },
-        ] => Some(contents.as_slice()),
-        _ => None,
     }
 }

@@ -5,6 +5,7 @@ ghost use Rattle.yasna_vectors.specs.Words.{is_space, others, HasNoSpace};
 ghost use Rattle.hex.specs.Hex.{decode_of};
 
 use crate::names::named;
+use crate::text::Text;
 use hex::FromHexError;
 use std::alloc::{AllocError, Global};
 use yasna::BERMode;
@@ -18,7 +19,7 @@ static MODES: [(&str, Option<BERMode>); 4] = [
 ];
 
 /// A call, and what it is made on.
-#[derive(Drop)]
+#[derive(Clone, Copy)]
 pub struct Case<'a> {
     /// The rules to read by; none where nothing is read.
     pub mode: Option<BERMode>,
@@ -31,7 +32,7 @@ pub struct Case<'a> {
 }
 
 /// A call, and the result that is to come.
-#[derive(Drop)]
+#[derive(Clone, Copy)]
 pub struct VectorLine<'a> {
     pub case: Case<'a>,
     pub expected: &'a str,
@@ -44,16 +45,24 @@ pub fn three_words(text: &str) -> Option<(&str, &str, &str)>
     ensures second { IfSome result (λ w. w.1.now ≡ before_first is_space (others text.now)) }
     ensures none { IfNone result (HasNoSpace text.now ⊎ HasNoSpace (others text.now)) }
 {
-    let (first, others) = text.split_once(' ')?;
-    let (second, third) = others.split_once(' ')?;
-    Some((first, second, third))
+    let Some((first, others)) = text.split_once(' ') else {
+        return None;
+    };
+    match others.split_once(' ') {
+        Some((second, third)) => Some((first, second, third)),
+        None => None,
+    }
 }
 
 impl<'a> Case<'a> {
     /// The case of a line `MODE CALL ARG`.
     pub fn parse(text: &'a str, marked: bool) -> Option<Case<'a>> {
-        let (mode, name, arg) = three_words(text)?;
-        let mode = named(&MODES, mode)?;
+        let Some((mode, name, arg)) = three_words(text) else {
+            return None;
+        };
+        let Some(mode) = named(&MODES, mode) else {
+            return None;
+        };
         let (call, second) = match name.split_once('/') {
             Some((call, second)) => (call, Some(second)),
             None => (name, None),
@@ -68,7 +77,7 @@ impl<'a> Case<'a> {
     }
 
     /// Whether bytes are read, and the argument is these: some calls make the bytes themselves, as many as it says.
-    pub fn takes_bytes(&self) -> bool {
+    pub fn takes_bytes(self) -> bool {
         self.mode.is_some()
             && !matches!(self.call, "whole" | "cut" | "seqof_many")
             && !self.call.starts_with("thrown:")
@@ -76,7 +85,7 @@ impl<'a> Case<'a> {
     }
 
     /// The word for the rules to read by.
-    pub fn mode_name(&self) -> &'static str {
+    pub fn mode_name(self) -> &'static str {
         match self.mode {
             Some(BERMode::Ber) => "ber",
             Some(BERMode::Der) => "der",
@@ -85,49 +94,56 @@ impl<'a> Case<'a> {
         }
     }
 
+    /// Appends the case, as a line has it.
+    pub fn show(self, text: &mut Text) {
+        text.push(self.mode_name());
+        text.push(" ");
+        text.push(self.call);
+        text.push(" ");
+        text.push(self.arg);
+    }
+
     /// The bytes that the argument represents, if it is such a text: pieces with `+` between them, each in hexadecimal, with
-    /// `*` and a number after it where it is so many times.
-    pub fn bytes(&self, alloc: Global) -> Option<Result<Vec<u8>, AllocError>> {
-        if !self.arg.contains('+') && !self.arg.contains('*') {
-            return bytes_of(alloc, self.arg);
-        }
-        let mut bytes = Vec::new(alloc);
+    /// `*` and a number after it where it is so many times. Without memory for them, that is noted in a result.
+    pub fn bytes(self, came: &mut Text) -> Option<Vec<u8>> {
+        let mut bytes = Vec::new(came.allocator());
         for piece in self.arg.split('+') {
-            if let Err(out_of_memory) = append(&mut bytes, piece)? {
-                return Some(Err(out_of_memory));
+            if !append(&mut bytes, piece, came) {
+                return None;
             }
         }
-        Some(Ok(bytes))
+        Some(bytes)
     }
 }
 
-// Appends a piece as often as it is, if it is one.
-fn append(bytes: &mut Vec<u8>, piece: &str) -> Option<Result<(), AllocError>> {
+// Appends a piece as often as it is, if it is one; without memory for it, that is noted in a result.
+fn append(bytes: &mut Vec<u8>, piece: &str, came: &mut Text) -> bool {
     let (text, times) = match piece.split_once('*') {
-        Some((text, times)) => (text, times.parse().ok()?),
-        None => (piece, 1),
+        Some((text, times)) => (text, times.parse()),
+        None => (piece, Ok(1u64)),
     };
-    match bytes_of(*bytes.allocator(), text)? {
-        Ok(piece) => Some(append_times(bytes, &piece, times)),
-        Err(out_of_memory) => Some(Err(out_of_memory)),
-    }
-}
-
-// Appends bytes so many times.
-fn append_times(bytes: &mut Vec<u8>, piece: &[u8], times: u64) -> Result<(), AllocError> {
+    let (Some(piece), Ok(times)) = (octets(text, came), times) else {
+        return false;
+    };
     for _ in 0..times {
-        bytes.extend_from_slice(piece)?;
+        if bytes.extend_from_slice(&piece).is_err() {
+            came.out_of_memory = true;
+            return false;
+        }
     }
-    Ok(())
+    true
 }
 
 impl<'a> VectorLine<'a> {
     /// The line `MODE CALL ARG => ANSWER`.
     pub fn parse(text: &'a str) -> Option<VectorLine<'a>> {
-        let (call, expected) = text.split_once(" => ")?;
-        let marked = expected.ends_with("consumed");
-        let case = Case::parse(call, marked)?;
-        Some(VectorLine { case, expected })
+        let Some((call, expected)) = text.split_once(" => ") else {
+            return None;
+        };
+        match Case::parse(call, expected.ends_with("consumed")) {
+            Some(case) => Some(VectorLine { case, expected }),
+            None => None,
+        }
     }
 }
 
@@ -150,8 +166,8 @@ pub fn is_outcome(came: &str, expected: &str) -> bool {
     others.is_empty()
 }
 
-/// The bytes that a text in hexadecimal represents, `-` for none.
-pub fn bytes_of(alloc: Global, text: &str) -> Option<Result<Vec<u8>, AllocError>>
+// The bytes that a text in hexadecimal represents, `-` for none.
+fn bytes_of(alloc: Global, text: &str) -> Option<Result<Vec<u8>, AllocError>>
     ensures bytes { text.now ≢ codes "-" → IfSome result (λ found. IfOk found (λ bytes. decode_of text.now ≡ Ok bytes.items)) }
     ensures dash { text.now ≡ codes "-" → IfSome result (λ found. IfOk found (λ bytes. bytes.items ≡ [])) }
     ensures none { IfNone result (IsErr (decode_of text.now)) }
@@ -163,5 +179,18 @@ pub fn bytes_of(alloc: Global, text: &str) -> Option<Result<Vec<u8>, AllocError>
         Ok(bytes) => Some(Ok(bytes)),
         Err(FromHexError::OutOfMemory) => Some(Err(AllocError)),
         Err(_) => None,
+    }
+}
+
+/// The bytes that a text in hexadecimal represents, `-` for none, if it is such a text; without memory for them, that is noted in a
+/// result.
+pub fn octets(text: &str, came: &mut Text) -> Option<Vec<u8>> {
+    match bytes_of(came.allocator(), text) {
+        Some(Ok(bytes)) => Some(bytes),
+        Some(Err(_)) => {
+            came.out_of_memory = true;
+            None
+        }
+        None => None,
     }
 }

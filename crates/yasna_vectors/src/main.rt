@@ -78,10 +78,11 @@ mod whole;
 mod writing;
 
 use run::Verdict;
-use std::alloc::Global;
+use std::alloc::{AllocError, Global};
 use std::process::ExitCode;
 use std::{env, io};
 use task::Task;
+use text::Text;
 
 const USAGE: &str = "usage: yasna_vectors [lines|answer|cut|length|memory]";
 
@@ -114,14 +115,18 @@ fn verdict(rt: &HostRuntime) -> io::Result<Verdict> {
 
 // What the arguments ask for, if they ask for anything that there is.
 fn asked(rt: &HostRuntime, alloc: Global) -> io::Result<Option<Task>> {
-    let words = env::args(rt)?.skip(1).collect::<Vec<String>>(alloc)?;
+    let words = env::args(rt)?.collect::<Vec<String>>(alloc)?;
     Ok(Task::parse(words.as_slice()))
 }
 
 // Does a task on standard input, and prints what came of it.
 fn perform(rt: &HostRuntime, alloc: Global, task: Task) -> io::Result<Verdict> {
     let input = io::read_to_string(alloc, rt.reader())?;
-    let report = task.run(alloc, input.as_str())?;
-    rt.print(report.text.as_str())?;
-    Ok(report.verdict)
+    let mut text = Text::new(alloc);
+    let verdict = task.run(input.as_str(), &mut text);
+    if text.out_of_memory {
+        return Err(AllocError.into());
+    }
+    rt.print(&text.text)?;
+    Ok(verdict)
 }

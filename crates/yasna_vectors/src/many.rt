@@ -11,81 +11,88 @@
 
 use crate::calls::{BYTES, NUMBERS};
 use crate::leaf::Leaf;
-use crate::outcome::Outcome;
-use crate::parts::{Element, Group, Part, append};
-use crate::reading::{encoding_of, parse, read_and_length};
+use crate::parts::{Element, Frame, Group, Part};
+use crate::reading::{encoding_of, parse};
 use crate::text::Text;
-use std::alloc::{AllocError, Global};
-use yasna::{ASN1Result, BERMode, construct_der};
+use std::alloc::Global;
+use yasna::{ASN1ErrorKind, ASN1Result, BERMode, construct_der};
 
-/// What a call of this family returns.
-pub fn outcome(alloc: Global, mode: BERMode, call: &str, arg: &str) -> Outcome {
+/// Appends what a call of this family returns, and says whether there are such a call and argument.
+pub fn append_outcome(mode: BERMode, call: &str, arg: &str, text: &mut Text) -> bool {
     let (count, size) = match arg.split_once('/') {
-        Some((count, size)) => (count, Some(size.parse().ok()?)),
+        Some((count, size)) => match size.parse() {
+            Ok(size) => (count, Some(size)),
+            Err(_) => return false,
+        },
         None => (arg, None),
     };
-    let count = count.parse().ok()?;
-    Some(shown(
-        alloc,
-        match call {
-            "seqof_many" => collected(alloc, mode, count),
-            "whole" | "cut" => octets(alloc, mode, count, size),
-            _ => return None,
-        },
-    ))
+    let Ok(count) = count.parse() else {
+        return false;
+    };
+    match call {
+        "seqof_many" => append_collected(mode, count, text),
+        "whole" | "cut" => append_octets(mode, count, size, text),
+        _ => return false,
+    }
+    true
 }
 
-// The answer with these counts of what was read and of what was written.
-fn shown(alloc: Global, counts: ASN1Result<(usize, usize)>) -> Text {
-    match counts {
-        Ok((read, written)) => Text::counts(alloc, &[read, written]),
-        Err(error) => Text::rejected(alloc, error.kind()),
+// Appends two counts.
+fn append_counts(read: usize, written: usize, text: &mut Text) {
+    text.push("ok ");
+    text.push_value(&read);
+    text.push(" ");
+    text.push_value(&written);
+}
+
+// Appends how many octets of so many are read in segments of so many, if they are these, and how many are written of them.
+fn append_octets(mode: BERMode, count: usize, size: Option<usize>, text: &mut Text) {
+    let Some(bytes) = counting(count, text) else {
+        return;
+    };
+    let encoded = match size {
+        Some(size) => cut(text.allocator(), &bytes, size),
+        None => whole(text.allocator(), &bytes),
+    };
+    match encoded {
+        Ok(encoded) => append_read(mode, &encoded, &bytes, text),
+        Err(error) => text.reject(error.kind()),
     }
 }
 
-// What reading so many bytes returns, in segments of so many: how many are read, if they are these, and how many are written of
-// them.
-fn octets(
-    alloc: Global,
-    mode: BERMode,
-    count: usize,
-    segment: Option<usize>,
-) -> ASN1Result<(usize, usize)> {
-    let bytes = counting(alloc, count)?;
-    let encoded = encoded(alloc, &bytes, segment)?;
-    let (element, written) = read_and_length(alloc, mode, BYTES, &encoded)?;
-    if is_of(&element, &bytes) {
-        Ok((count, written))
-    } else {
-        Ok((0, 0))
-    }
-}
-
-// Whether the element is these octets.
-fn is_of(element: &Element, octets: &[u8]) -> bool {
+// Appends how many octets are read, if they are these, and how many are written of them.
+fn append_read(mode: BERMode, encoded: &[u8], octets: &[u8], text: &mut Text) {
+    let element = match parse(text.allocator(), mode, BYTES, encoded) {
+        Ok(element) => element,
+        Err(error) => return text.reject(error.kind()),
+    };
+    let written = match encoding_of(text.allocator(), mode, &element) {
+        Ok(written) => written.len(),
+        Err(error) => return text.reject(error.kind()),
+    };
     match element.leaf() {
-        Some(Leaf::Bytes(read)) => read.as_slice() == octets,
-        _ => false,
+        Some(Leaf::Bytes(read)) if read.as_slice() == octets => {
+            append_counts(octets.len(), written, text);
+        }
+        _ => append_counts(0, 0, text),
     }
 }
 
-// The bytes as one element, or in segments of this size.
-fn encoded(alloc: Global, bytes: &[u8], segment: Option<usize>) -> ASN1Result<Vec<u8>> {
-    match segment {
-        None => whole(alloc, bytes),
-        Some(size) => cut(alloc, bytes, size),
-    }
-}
-
-// So many bytes, none like its neighbours.
-fn counting(alloc: Global, count: usize) -> Result<Vec<u8>, AllocError> {
-    let mut bytes = Vec::with_capacity(alloc, count)?;
+// So many bytes, none like its neighbours; without memory for them, that is the result.
+fn counting(count: usize, came: &mut Text) -> Option<Vec<u8>> {
+    let Ok(mut bytes) = Vec::with_capacity(came.allocator(), count) else {
+        came.reject(ASN1ErrorKind::OutOfMemory);
+        return None;
+    };
     let mut next = 0u8;
     for _ in 0..count {
-        bytes.push(next)?;
+        if bytes.push(next).is_err() {
+            came.reject(ASN1ErrorKind::OutOfMemory);
+            return None;
+        }
         next = next.wrapping_add(7);
     }
-    Ok(bytes)
+    Some(bytes)
 }
 
 // The bytes as one element.
@@ -103,26 +110,32 @@ fn cut(alloc: Global, bytes: &[u8], size: usize) -> ASN1Result<Vec<u8>> {
     Ok(all)
 }
 
-// How many numbers are collected of so many that are written, and in how many bytes.
-fn collected(alloc: Global, mode: BERMode, count: usize) -> ASN1Result<(usize, usize)> {
-    let bytes = encoding_of(alloc, mode, &numbers(alloc, count)?)?;
-    let element = parse(alloc, mode, NUMBERS, &bytes)?;
-    Ok((count_of(&element), bytes.len()))
-}
-
-// How many parts an element holds.
-fn count_of(element: &Element) -> usize {
-    match element.parts() {
-        Some(parts) => parts.len(),
-        None => 0,
+// Appends how many numbers are collected of so many that are written, and in how many bytes.
+fn append_collected(mode: BERMode, count: usize, text: &mut Text) {
+    let Some(numbers) = numbers(count, text) else {
+        return;
+    };
+    let bytes = match encoding_of(text.allocator(), mode, &numbers) {
+        Ok(bytes) => bytes,
+        Err(error) => return text.reject(error.kind()),
+    };
+    match parse(text.allocator(), mode, NUMBERS, &bytes) {
+        Ok(element) => append_counts(element.parts.len(), bytes.len(), text),
+        Err(error) => text.reject(error.kind()),
     }
 }
 
-// The numbers below this one.
-fn numbers(alloc: Global, count: usize) -> Result<Element, AllocError> {
-    let mut parts = Vec::new(alloc);
+// The numbers below this one; without memory for them, that is the result.
+fn numbers(count: usize, came: &mut Text) -> Option<Element> {
+    let mut parts = Vec::new(came.allocator());
     for number in 0..i64::try_from(count).unwrap_or(0) {
-        append(&mut parts, Part::plain(Leaf::I64(number)))?;
+        if parts
+            .push(Part::new(Frame::Plain, Leaf::I64(number)))
+            .is_err()
+        {
+            came.reject(ASN1ErrorKind::OutOfMemory);
+            return None;
+        }
     }
-    Ok(Element::group(Group::SequenceOf, parts))
+    Some(Element::new(Group::SequenceOf, parts))
 }

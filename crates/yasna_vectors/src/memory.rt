@@ -6,17 +6,16 @@
 
 use crate::line::{Case, VectorLine, is_outcome};
 use crate::outcome::outcome;
-use crate::run::{Report, Verdict};
-use std::alloc::{AllocError, Global};
+use crate::run::Verdict;
+use crate::text::Text;
 
 // What the lines returned.
-#[derive(Drop)]
+#[derive(Clone, Copy)]
 struct Tally {
-    text: String,
     lines: u64,
     // lines that `yasna` rejected when out of memory
     rejected: u64,
-    // lines with no answer, as there was no memory for their argument or their text
+    // lines with no result, as there was no memory for their argument or their text
     silent: u64,
     failed: u64,
     // the last line that ran out of memory
@@ -24,9 +23,8 @@ struct Tally {
 }
 
 /// Runs the lines, and counts those that ran out of memory.
-pub fn run_lines(alloc: Global, lines: &str) -> Result<Report, AllocError> {
+pub fn run_lines(lines: &str, text: &mut Text) -> Verdict {
     let mut tally = Tally {
-        text: String::new(alloc),
         lines: 0,
         rejected: 0,
         silent: 0,
@@ -35,36 +33,57 @@ pub fn run_lines(alloc: Global, lines: &str) -> Result<Report, AllocError> {
     };
     for line in lines.lines() {
         if let Some(line) = VectorLine::parse(line) {
-            run_line(alloc, &line, &mut tally)?;
+            tally = run_line(line, tally, text);
         }
     }
-    report(tally)
+    let counts = [
+        (tally.lines, " lines, "),
+        (tally.rejected, " refused, "),
+        (tally.silent, " silent, "),
+        (tally.failed, " failed, place "),
+        (tally.place, "\n"),
+    ];
+    for (count, after) in &counts {
+        text.push_value(count);
+        text.push(after);
+    }
+    Verdict::of(tally.failed)
 }
 
-// Runs a line, and notes what it returned. Whether an error consumed something isn't asked, as that takes further calls.
-fn run_line(alloc: Global, line: &VectorLine, tally: &mut Tally) -> Result<(), AllocError> {
-    tally.lines = tally.lines.saturating_add(1);
+// The tally after a line too. Whether an error consumed something isn't asked, as that takes further calls.
+fn run_line(line: VectorLine, tally: Tally, text: &mut Text) -> Tally {
     let case = Case {
-        mode: line.case.mode,
-        call: line.case.call,
         second: None,
-        arg: line.case.arg,
         marked: false,
+        ..line.case
     };
-    match outcome(alloc, &case) {
-        Some(Err(_)) => {
-            tally.silent = tally.silent.saturating_add(1);
-            tally.place = tally.lines;
-            Ok(())
-        }
-        Some(Ok(came)) if is_outcome(came.as_str(), unmarked(line.expected)) => Ok(()),
-        Some(Ok(came)) if came.starts_with("err OutOfMemory") => {
-            tally.rejected = tally.rejected.saturating_add(1);
-            tally.place = tally.lines;
-            Ok(())
-        }
-        Some(Ok(came)) => fail(tally, &case, came.as_str()),
-        None => fail(tally, &case, "unknown"),
+    let came = outcome(text.allocator(), case);
+    let lines = tally.lines.saturating_add(1);
+    let tally = Tally { lines, ..tally };
+    if came.out_of_memory {
+        return Tally {
+            silent: tally.silent.saturating_add(1),
+            place: lines,
+            ..tally
+        };
+    }
+    if !came.is_unknown && is_outcome(&came.text, unmarked(line.expected)) {
+        return tally;
+    }
+    if came.text.starts_with("err OutOfMemory") {
+        return Tally {
+            rejected: tally.rejected.saturating_add(1),
+            place: lines,
+            ..tally
+        };
+    }
+    case.show(text);
+    text.push("\n    came ");
+    text.push_text(&came);
+    text.push("\n");
+    Tally {
+        failed: tally.failed.saturating_add(1),
+        ..tally
     }
 }
 
@@ -74,29 +93,4 @@ fn unmarked(outcome: &str) -> &str {
         Some(unmarked) => unmarked,
         None => outcome.strip_suffix(" unconsumed").unwrap_or(outcome),
     }
-}
-
-// Notes a line that returned what it isn't to.
-fn fail(tally: &mut Tally, case: &Case, came: &str) -> Result<(), AllocError> {
-    tally.failed = tally.failed.saturating_add(1);
-    let mode = case.mode_name();
-    let call = case.call;
-    let arg = case.arg;
-    writeln!(tally.text, "{mode} {call} {arg}\n    came {came}")
-}
-
-// What the lines came to.
-fn report(tally: Tally) -> Result<Report, AllocError> {
-    let mut text = tally.text;
-    let lines = tally.lines;
-    let rejected = tally.rejected;
-    let silent = tally.silent;
-    let failed = tally.failed;
-    let place = tally.place;
-    write!(text, "{lines} lines, {rejected} refused, {silent} silent, ")?;
-    writeln!(text, "{failed} failed, place {place}")?;
-    Ok(Report {
-        text,
-        verdict: Verdict::of(failed),
-    })
 }

@@ -6,17 +6,22 @@
 //! | `seq_mode` | the mode of the parts in read_sequence |
 
 use crate::text::Text;
-use std::alloc::Global;
 use yasna::{ASN1Result, BERMode, BERReader, BERReaderSeq, parse_ber_general};
 
-/// What a call of this family returns on these bytes.
-pub fn outcome(alloc: Global, mode: BERMode, call: &str, bytes: &[u8]) -> Text {
+/// Appends what a call of this family returns on these bytes.
+pub fn append_outcome(mode: BERMode, call: &str, bytes: &[u8], text: &mut Text) {
     let is_alone = call == "mode";
-    match parse_ber_general(alloc, bytes, mode, |reader| read(reader, is_alone)) {
-        Ok(BERMode::Ber) => Text::new(alloc, "ok ber"),
-        Ok(BERMode::Der) => Text::new(alloc, "ok der"),
-        Ok(BERMode::Cer) => Text::new(alloc, "ok cer"),
-        Err(error) => Text::rejected(alloc, error.kind()),
+    let parsed = parse_ber_general(
+        text.allocator(),
+        bytes,
+        mode,
+        |reader| read(reader, is_alone),
+    );
+    match parsed {
+        Ok(BERMode::Ber) => text.push("ok ber"),
+        Ok(BERMode::Der) => text.push("ok der"),
+        Ok(BERMode::Cer) => text.push("ok cer"),
+        Err(error) => text.reject(error.kind()),
     }
 }
 

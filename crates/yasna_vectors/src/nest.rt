@@ -13,33 +13,15 @@ use yasna::{ASN1Result, BERReader, DERWriter};
 /// How many SEQUENCEs there are, and the number within.
 #[derive(Clone, Copy)]
 pub struct Nested {
-    depth: u8,
-    number: i64,
-    // how many pairs of brackets are shown
-    brackets: u8,
+    pub depth: u8,
+    pub number: i64,
+    /// How many pairs of brackets are shown.
+    pub brackets: u8,
 }
 
 impl Nested {
-    /// A number in so many SEQUENCEs, which is shown alone.
-    pub fn new(depth: u8, number: i64) -> Nested {
-        Nested {
-            depth,
-            number,
-            brackets: 0,
-        }
-    }
-
-    /// One SEQUENCE around a number.
-    pub fn around(number: i64) -> Nested {
-        Nested {
-            depth: 1,
-            number,
-            brackets: 1,
-        }
-    }
-
     /// Appends the number to a text.
-    pub fn show(&self, text: &mut Text) {
+    pub fn show(self, text: &mut Text) {
         for _ in 0..self.brackets {
             text.push("(");
         }
@@ -48,21 +30,10 @@ impl Nested {
             text.push(")");
         }
     }
-
-    /// Writes the SEQUENCEs.
-    pub fn write(&self, writer: DERWriter<'_>) -> ASN1Result<()> {
-        write_within(writer, self.depth, self.number)
-    }
 }
 
-/// Reads so many SEQUENCEs.
-pub fn read_nest(depth: u8, reader: BERReader) -> ASN1Result<Nested> {
-    let number = read_within(reader, depth)?;
-    Ok(Nested::new(depth, number))
-}
-
-// Reads the number within so many SEQUENCEs.
-fn read_within(reader: BERReader, depth: u8) -> ASN1Result<i64> {
+/// Reads the number within so many SEQUENCEs.
+pub fn read_within(reader: BERReader, depth: u8) -> ASN1Result<i64> {
     match depth.checked_sub(1) {
         None => reader.read_i64(),
         Some(below) => reader.read_sequence(|seq| read_within(seq.next(), below)),
@@ -73,7 +44,11 @@ fn read_within(reader: BERReader, depth: u8) -> ASN1Result<i64> {
 pub fn read_nests(reader: BERReader) -> ASN1Result<Nested> {
     if reader.lookahead_tag()? != TAG_SEQUENCE {
         let number = reader.read_i64()?;
-        return Ok(Nested::new(0, number));
+        return Ok(Nested {
+            depth: 0,
+            number,
+            brackets: 0,
+        });
     }
     reader.read_sequence(
         |seq| -> ASN1Result<Nested>
@@ -90,8 +65,8 @@ pub fn read_nests(reader: BERReader) -> ASN1Result<Nested> {
     )
 }
 
-// Writes so many SEQUENCEs around a number.
-fn write_within(writer: DERWriter<'_>, depth: u8, number: i64) -> ASN1Result<()> {
+/// Writes so many SEQUENCEs around a number.
+pub fn write_within(writer: DERWriter<'_>, depth: u8, number: i64) -> ASN1Result<()> {
     match depth.checked_sub(1) {
         None => writer.write_i64(number),
         Some(below) => writer.write_sequence(|seq| write_within(seq.next(), below, number)),

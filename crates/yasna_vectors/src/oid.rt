@@ -8,112 +8,122 @@
 
 use crate::calls::IDENTIFIER;
 use crate::leaf::{Leaf, show_identifier};
-use crate::line::bytes_of;
-use crate::outcome::Outcome;
+use crate::line::octets;
 use crate::parts::Element;
-use crate::reading::{encoding_of, parse, shown};
+use crate::reading::{append_leaf, encoding_of, parse};
 use crate::text::Text;
-use std::alloc::{AllocError, Global};
+use std::alloc::Global;
 use yasna::models::ObjectIdentifier;
 use yasna::{ASN1Error, ASN1ErrorKind, ASN1Result, BERMode};
 
-/// What a call on a text returns.
-pub fn outcome(alloc: Global, call: &str, arg: &str) -> Outcome {
+/// Appends what a call on a text returns, and says whether there are such a call and argument.
+pub fn append_outcome(call: &str, arg: &str, text: &mut Text) -> bool {
     match call {
-        "o:from_str" => match bytes_of(alloc, arg)? {
-            Ok(bytes) => Some(parsed(alloc, String::from_utf8(bytes).ok()?.as_str())),
-            Err(_) => Some(Text::when_out_of_memory(alloc)),
+        "o:from_str" => append_parsed(arg, text),
+        "o:parts" => match arg.parse() {
+            Ok(count) => {
+                append_counts(count, text);
+                true
+            }
+            Err(_) => false,
         },
-        "o:parts" => Some(parts_outcome(alloc, arg.parse().ok()?)),
-        _ => None,
+        _ => false,
     }
 }
 
-/// The object identifier whose components a text shows; none where it shows none.
-pub fn identifier(alloc: Global, text: &str) -> Result<Option<ObjectIdentifier>, AllocError> {
-    match ObjectIdentifier::from_str(alloc, text) {
-        Ok(identifier) => Ok(Some(identifier)),
-        Err(error) if error.is_out_of_memory() => Err(AllocError),
-        Err(_) => Ok(None),
-    }
-}
-
-// What reading a text returns: the components, and their encoding if they have one.
-fn parsed(alloc: Global, text: &str) -> Text {
-    match identifier(alloc, text) {
-        Ok(Some(identifier)) if identifier.is_encodable() => shown(
-            alloc,
-            BERMode::Der,
-            &Element::value(Leaf::Identifier(identifier)),
-        ),
-        Ok(Some(identifier)) => {
-            let mut text = Text::new(alloc, "ok ");
-            show_identifier(&identifier, &mut text);
-            text.push(" notencodable");
-            text
+/// The object identifier whose components a text shows; none where it shows none. Without memory for it, that is noted in a
+/// result.
+pub fn identifier(text: &str, came: &mut Text) -> Option<ObjectIdentifier> {
+    match ObjectIdentifier::from_str(came.allocator(), text) {
+        Ok(identifier) => Some(identifier),
+        Err(error) => {
+            if error.is_out_of_memory() {
+                came.out_of_memory = true;
+            }
+            None
         }
-        Ok(None) => Text::new(alloc, "none"),
-        Err(_) => Text::when_out_of_memory(alloc),
     }
 }
 
-// The text of so many components.
-fn text_of(alloc: Global, count: u64) -> Result<String, AllocError> {
-    let mut text = Text::new(alloc, "1");
-    for component in 1..count {
-        text.push(".");
-        text.push_value(&component.max(2));
-    }
-    text.finish()
-}
-
-// What becomes of so many components.
-fn parts_outcome(alloc: Global, count: u64) -> Text {
-    let Ok(text) = text_of(alloc, count) else {
-        return Text::when_out_of_memory(alloc);
+// Appends what reading a text in hexadecimal returns: the components, and their encoding if they have one.
+fn append_parsed(digits: &str, text: &mut Text) -> bool {
+    let Some(bytes) = octets(digits, text) else {
+        return false;
     };
-    match identifier(alloc, &text) {
-        Ok(Some(identifier)) => lengths(alloc, &text, identifier),
-        Ok(None) => Text::new(alloc, "none"),
-        Err(_) => Text::when_out_of_memory(alloc),
+    let Ok(characters) = str::from_utf8(&bytes) else {
+        return false;
+    };
+    match identifier(characters, text) {
+        Some(identifier) if identifier.is_encodable() => {
+            append_leaf(BERMode::Der, Leaf::Identifier(identifier), text);
+        }
+        Some(identifier) => {
+            text.push("ok ");
+            show_identifier(&identifier, text);
+            text.push(" notencodable");
+        }
+        None => text.push("none"),
+    }
+    true
+}
+
+// Appends what becomes of so many components.
+fn append_counts(count: u64, text: &mut Text) {
+    let mut components = Text::with_room(text.allocator());
+    components.push("1");
+    for component in 1..count {
+        components.push(".");
+        components.push_value(&component.max(2));
+    }
+    if components.out_of_memory {
+        text.out_of_memory = true;
+        return;
+    }
+    match identifier(&components.text, text) {
+        Some(identifier) => append_lengths(&components.text, identifier, text),
+        None => text.push("none"),
     }
 }
 
-// The answer with the lengths of these components, of their text and of their encoding.
-fn lengths(alloc: Global, text: &str, identifier: ObjectIdentifier) -> Text {
+// Appends the lengths of these components, of their text and of their encoding.
+fn append_lengths(components: &str, identifier: ObjectIdentifier, text: &mut Text) {
     let count = identifier.components().len();
-    match is_shown_as(alloc, &identifier, text) {
-        Ok(true) => {
-            let element = Element::value(Leaf::Identifier(identifier));
-            match written_length(alloc, &element) {
-                Ok(encoding) => Text::counts(alloc, &[count, text.len(), encoding]),
-                Err(error) => Text::rejected(alloc, error.kind()),
+    if !is_shown_as(&identifier, components, text) {
+        return text.push("another text");
+    }
+    let Some(element) = Element::alone(Leaf::Identifier(identifier), text) else {
+        return;
+    };
+    match written_length(text.allocator(), &element) {
+        Ok(encoding) => {
+            text.push("ok");
+            for length in &[count, components.len(), encoding] {
+                text.push(" ");
+                text.push_value(length);
             }
         }
-        Ok(false) => Text::new(alloc, "another text"),
-        Err(_) => Text::when_out_of_memory(alloc),
+        Err(error) => text.reject(error.kind()),
     }
 }
 
-// Whether the text shows these components.
-fn is_shown_as(
-    alloc: Global,
-    identifier: &ObjectIdentifier,
-    text: &str,
-) -> Result<bool, AllocError> {
-    let mut shown = Text::new(alloc, "");
+// Whether the text shows these components; without memory for that, it is noted in a result.
+fn is_shown_as(identifier: &ObjectIdentifier, components: &str, came: &mut Text) -> bool {
+    let mut shown = Text::with_room(came.allocator());
     shown.push_value(identifier);
-    Ok(shown.finish()?.as_str() == text)
+    came.out_of_memory = came.out_of_memory || shown.out_of_memory;
+    shown.text.as_str() == components
 }
 
 // How many bytes are written of components, which are read again as they were.
 fn written_length(alloc: Global, written: &Element) -> ASN1Result<usize> {
-    let encoding = encoding_of(alloc, BERMode::Der, written)?;
-    let read = parse(alloc, BERMode::Der, IDENTIFIER, &encoding)?;
-    if are_same(read.leaf(), written.leaf()) {
-        Ok(encoding.len())
-    } else {
-        Err(ASN1Error::new(ASN1ErrorKind::Invalid))
+    let encoding = match encoding_of(alloc, BERMode::Der, written) {
+        Ok(encoding) => encoding,
+        Err(error) => return Err(error),
+    };
+    match parse(alloc, BERMode::Der, IDENTIFIER, &encoding) {
+        Ok(read) if are_same(read.leaf(), written.leaf()) => Ok(encoding.len()),
+        Ok(_) => Err(ASN1Error::new(ASN1ErrorKind::Invalid)),
+        Err(error) => Err(error),
     }
 }
 

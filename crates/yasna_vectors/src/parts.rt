@@ -14,7 +14,6 @@ use crate::kind::ElementType;
 use crate::leaf::Leaf;
 use crate::tag::show_tag;
 use crate::text::Text;
-use std::alloc::{AllocError, Global};
 use yasna::{ASN1Result, BERReader, DERWriter, DERWriterSeq, DERWriterSet, Tag};
 
 /// How a part is where it was read.
@@ -45,25 +44,30 @@ pub struct Part {
 /// What holds parts.
 #[derive(Clone, Copy)]
 pub enum Group {
+    /// Nothing: it is the last part alone, and NULL where there is none.
+    Alone,
     Sequence,
     SequenceOf,
     Set,
     SetOf,
 }
 
-/// What an element holds.
-#[derive(Drop)]
-enum Contents {
-    Alone(Part),
-    Parts(Group, Vec<Part>),
+/// What is around an element.
+#[derive(Clone, Copy)]
+pub enum Around {
+    Nothing,
+    /// It is under an implicit tag.
+    Implicit(Tag),
+    /// A SEQUENCE, which isn't shown.
+    Sequence,
 }
 
 /// What a call reads.
 #[derive(Drop)]
 pub struct Element {
-    // the implicit tag that it is under, if any
-    tag: Option<Tag>,
-    contents: Contents,
+    pub around: Around,
+    pub group: Group,
+    pub parts: Vec<Part>,
 }
 
 impl Piece {
@@ -74,27 +78,24 @@ impl Piece {
         match frame {
             Frame::Explicit(tag) => Part::of(frame, reader.read_tagged(tag, read)),
             Frame::Implicit(tag) => Part::of(frame, reader.read_tagged_implicit(tag, read)),
-            Frame::LookedAt => read_looked_at(kind, reader),
+            Frame::LookedAt => match reader.lookahead_tag() {
+                Ok(tag) => Part::of(Frame::Implicit(tag), kind.read(reader)),
+                Err(error) => Err(error),
+            },
             Frame::Plain | Frame::Unwritten => Part::of(frame, kind.read(reader)),
         }
     }
 
-    /// The part that a text is.
-    pub fn value(self, alloc: Global, text: &str) -> Option<Result<Part, AllocError>> {
+    /// The part that a text represents, if it does; without memory for it, that is noted in a result.
+    pub fn value(self, text: &str, came: &mut Text) -> Option<Part> {
         if let Frame::LookedAt = self.0 {
             return None;
         }
-        match self.1.value(alloc, text)? {
-            Ok(leaf) => Some(Ok(Part::new(self.0, leaf))),
-            Err(out_of_memory) => Some(Err(out_of_memory)),
+        match self.1.value(text, came) {
+            Some(leaf) => Some(Part::new(self.0, leaf)),
+            None => None,
         }
     }
-}
-
-// Reads a part, which is under its own tag.
-fn read_looked_at(kind: ElementType, reader: BERReader) -> ASN1Result<Part> {
-    let tag = reader.lookahead_tag()?;
-    Part::of(Frame::Implicit(tag), kind.read(reader))
 }
 
 impl Part {
@@ -115,45 +116,21 @@ impl Part {
         }
     }
 
-    /// A value.
-    pub fn plain(leaf: Leaf) -> Part {
-        Part::new(Frame::Plain, leaf)
-    }
-
-    /// A value that is shown and not written.
-    pub fn unwritten(leaf: Leaf) -> Part {
-        Part::new(Frame::Unwritten, leaf)
-    }
-
-    /// The part, with the bytes that it was read from.
-    pub fn with_taken(mut self, alloc: Global, taken: &[u8]) -> ASN1Result<Part> {
-        self.taken = Some(Vec::from_slice(alloc, taken)?);
-        Ok(self)
-    }
-
-    // Whether it is written.
-    fn is_written(&self) -> bool {
-        !matches!(self.frame, Frame::Unwritten)
-    }
-
-    /// Appends it to a text.
-    pub fn show(&self, text: &mut Text) {
-        let Some(taken) = &self.taken else {
-            return self.show_value(text);
-        };
-        text.push("<");
-        self.show_value(text);
-        text.push(",r");
-        text.push_bytes(taken);
-        text.push(">");
-    }
-
-    // Shows its value, after its tag.
-    fn show_value(&self, text: &mut Text) {
+    // Appends it to a text.
+    fn show(&self, text: &mut Text) {
+        if self.taken.is_some() {
+            text.push("<");
+        }
         if let Frame::Explicit(tag) | Frame::Implicit(tag) = self.frame {
-            show_after_tag(tag, text);
+            show_tag(tag, text);
+            text.push(":");
         }
         self.leaf.show(text);
+        if let Some(taken) = &self.taken {
+            text.push(",r");
+            text.push_bytes(taken);
+            text.push(">");
+        }
     }
 
     // Writes it.
@@ -169,17 +146,8 @@ impl Part {
 }
 
 impl Group {
-    // The characters that are around its parts.
-    fn brackets(self) -> (&'static str, &'static str) {
-        match self {
-            Group::Sequence | Group::SequenceOf => ("(", ")"),
-            Group::Set => ("{", "}"),
-            Group::SetOf => ("[", "]"),
-        }
-    }
-
     // Writes these parts.
-    fn write(self, writer: DERWriter<'_>, parts: &[Part]) -> ASN1Result<()> {
+    fn write(self, parts: &[Part], writer: DERWriter<'_>) -> ASN1Result<()> {
         let write_parts = |seq: &mut DERWriterSeq| write_parts(seq, parts);
         let write_elements = |set: &mut DERWriterSet| write_elements(set, parts);
         match self {
@@ -187,126 +155,90 @@ impl Group {
             Group::SequenceOf => writer.write_sequence_of(write_parts),
             Group::Set => writer.write_set(write_elements),
             Group::SetOf => writer.write_set_of(write_elements),
+            Group::Alone => match parts {
+                [] => writer.write_null(),
+                [.., last] => last.write(writer),
+            },
         }
     }
 }
 
 impl Element {
-    /// A part alone.
-    pub fn alone(part: Part) -> Element {
+    /// These parts, under no tag.
+    pub fn new(group: Group, parts: Vec<Part>) -> Element {
         Element {
-            tag: None,
-            contents: Contents::Alone(part),
+            around: Around::Nothing,
+            group,
+            parts,
         }
     }
 
-    /// A value alone.
-    pub fn value(leaf: Leaf) -> Element {
-        Element::alone(Part::plain(leaf))
-    }
-
-    /// These parts.
-    pub fn group(group: Group, parts: Vec<Part>) -> Element {
-        Element {
-            tag: None,
-            contents: Contents::Parts(group, parts),
+    /// This value alone; without memory for it, that is noted in a result.
+    pub fn alone(leaf: Leaf, came: &mut Text) -> Option<Element> {
+        let mut parts = Vec::new(came.allocator());
+        if parts.push(Part::new(Frame::Plain, leaf)).is_ok() {
+            return Some(Element::new(Group::Alone, parts));
         }
-    }
-
-    /// It under an implicit tag.
-    pub fn under(self, tag: Tag) -> Element {
-        Element {
-            tag: Some(tag),
-            contents: self.contents,
-        }
-    }
-
-    /// Its last part alone; NULL where it has none.
-    pub fn last(self) -> Element {
-        match self.contents {
-            Contents::Alone(part) => Element::alone(part),
-            Contents::Parts(_, mut parts) => match parts.pop() {
-                Some(part) => Element::alone(part),
-                None => Element::value(Leaf::Null),
-            },
-        }
+        came.out_of_memory = true;
+        None
     }
 
     /// Appends it to a text.
     pub fn show(&self, text: &mut Text) {
-        if let Some(tag) = self.tag {
-            show_after_tag(tag, text);
+        if let Around::Implicit(tag) = self.around {
+            show_tag(tag, text);
+            text.push(":");
         }
-        match &self.contents {
-            Contents::Alone(part) => part.show(text),
-            Contents::Parts(group, parts) => {
-                let (first, last) = group.brackets();
-                text.push(first);
-                show_parts(parts, text);
-                text.push(last);
-            }
+        let (first, last) = match self.group {
+            Group::Alone => return self.show_last(text),
+            Group::Sequence | Group::SequenceOf => ("(", ")"),
+            Group::Set => ("{", "}"),
+            Group::SetOf => ("[", "]"),
+        };
+        text.push(first);
+        let mut between = "";
+        for part in &self.parts {
+            text.push(between);
+            part.show(text);
+            between = ",";
+        }
+        text.push(last);
+    }
+
+    // Appends its last part.
+    fn show_last(&self, text: &mut Text) {
+        match self.parts.last() {
+            Some(part) => part.show(text),
+            None => text.push("()"),
         }
     }
 
     /// Writes it.
     pub fn write(&self, writer: DERWriter<'_>) -> ASN1Result<()> {
-        match self.tag {
-            None => self.write_contents(writer),
-            Some(tag) => writer.write_tagged_implicit(tag, |inner| self.write_contents(inner)),
-        }
-    }
-
-    // Writes it under no tag.
-    fn write_contents(&self, writer: DERWriter<'_>) -> ASN1Result<()> {
-        match &self.contents {
-            Contents::Alone(part) => part.write(writer),
-            Contents::Parts(group, parts) => group.write(writer, parts),
+        match self.around {
+            Around::Nothing => self.group.write(&self.parts, writer),
+            Around::Implicit(tag) => {
+                writer.write_tagged_implicit(tag, |inner| self.group.write(&self.parts, inner))
+            }
+            Around::Sequence => {
+                writer.write_sequence(|seq| self.group.write(&self.parts, seq.next()))
+            }
         }
     }
 
     /// The value that it is, if it is one alone.
     pub fn leaf(&self) -> Option<&Leaf> {
-        match &self.contents {
-            Contents::Alone(part) => Some(&part.leaf),
-            Contents::Parts(_, _) => None,
+        match (self.group, self.parts.as_slice()) {
+            (Group::Alone, [part]) => Some(&part.leaf),
+            _ => None,
         }
     }
-
-    /// The parts that it holds, if it holds parts.
-    pub fn parts(&self) -> Option<&[Part]> {
-        match &self.contents {
-            Contents::Alone(_) => None,
-            Contents::Parts(_, parts) => Some(parts.as_slice()),
-        }
-    }
-}
-
-// Shows a tag, and what is between it and a value.
-fn show_after_tag(tag: Tag, text: &mut Text) {
-    show_tag(tag, text);
-    text.push(":");
-}
-
-// Shows parts with commas between them.
-fn show_parts(parts: &[Part], text: &mut Text) {
-    let mut between = "";
-    for part in parts {
-        text.push(between);
-        part.show(text);
-        between = ",";
-    }
-}
-
-/// Appends a part.
-pub fn append(parts: &mut Vec<Part>, part: Part) -> Result<(), AllocError> {
-    parts.push(part)?;
-    Ok(())
 }
 
 /// Writes parts with no header around them.
 pub fn write_parts(seq: &mut DERWriterSeq, parts: &[Part]) -> ASN1Result<()> {
     for part in parts {
-        if part.is_written() {
+        if !matches!(part.frame, Frame::Unwritten) {
             part.write(seq.next())?;
         }
     }
@@ -316,7 +248,7 @@ pub fn write_parts(seq: &mut DERWriterSeq, parts: &[Part]) -> ASN1Result<()> {
 // Writes elements of a set.
 fn write_elements(set: &mut DERWriterSet, elements: &[Part]) -> ASN1Result<()> {
     for element in elements {
-        if element.is_written() {
+        if !matches!(element.frame, Frame::Unwritten) {
             element.write(set.next())?;
         }
     }

@@ -1,23 +1,38 @@
 //! How a call that reads is made, and made twice where it is asked whether its error is kept.
 
 use crate::encodings::{construct_in, parse_in};
+use crate::leaf::Leaf;
 use crate::line::Case;
-use crate::outcome::Outcome;
 use crate::parts::Element;
 use crate::reads::Read;
 use crate::text::Text;
 use std::alloc::{AllocError, Global};
-use yasna::{ASN1ErrorKind, ASN1Result, BERMode, BERReader, BERReaderSeq, parse_ber_general};
+use yasna::{ASN1ErrorKind, ASN1Result, BERMode, BERReader, parse_ber_general};
 
-/// What a call that reads returns on these bytes.
-pub fn outcome(alloc: Global, mode: BERMode, case: &Case, bytes: &[u8]) -> Outcome {
-    let both = Both::parse(alloc, case)?;
-    match parse(alloc, mode, both.first, bytes) {
-        Ok(element) => Some(shown(alloc, mode, &element)),
-        Err(error) if case.marked || case.second.is_some() => {
-            both.outcome(mode, case, bytes, error.kind())
+/// Appends what a call that reads returns on these bytes, and says whether there is one of this name.
+pub fn append_outcome(mode: BERMode, case: Case, bytes: &[u8], text: &mut Text) -> bool {
+    let (Some(first), Some(second)) = (
+        Read::named(case.call),
+        Read::named(case.second.unwrap_or(case.call)),
+    ) else {
+        return false;
+    };
+    let alloc = text.allocator();
+    match parse(alloc, mode, first, bytes) {
+        Ok(element) => {
+            append_shown(mode, &element, text);
+            true
         }
-        Err(error) => Some(Text::rejected(alloc, error.kind())),
+        Err(error) => {
+            text.reject(error.kind());
+            let both = Both {
+                alloc,
+                first,
+                second,
+            };
+            !(case.marked || case.second.is_some())
+                || both.append_mark(mode, bytes, error.kind(), case.second.is_some(), text)
+        }
     }
 }
 
@@ -26,25 +41,18 @@ pub fn parse(alloc: Global, mode: BERMode, read: Read, bytes: &[u8]) -> ASN1Resu
     parse_in(alloc, mode, bytes, |reader| read.read(alloc, reader))
 }
 
-/// What a call reads of these bytes, and how many are written of it.
-pub fn read_and_length(
-    alloc: Global,
-    mode: BERMode,
-    read: Read,
-    bytes: &[u8],
-) -> ASN1Result<(Element, usize)> {
-    let element = parse(alloc, mode, read, bytes)?;
-    match encoding_of(alloc, mode, &element) {
-        Ok(written) => Ok((element, written.len())),
-        Err(error) => Err(error),
-    }
+/// Appends `ok`, an element and what is written of it.
+pub fn append_shown(mode: BERMode, element: &Element, text: &mut Text) {
+    text.push("ok ");
+    element.show(text);
+    text.push_encoding(encoding_of(text.allocator(), mode, element));
 }
 
-/// The answer `ok`, with an element and what is written of it.
-pub fn shown(alloc: Global, mode: BERMode, element: &Element) -> Text {
-    let mut text = Text::new(alloc, "ok ");
-    element.show(&mut text);
-    text.with_encoding(encoding_of(alloc, mode, element))
+/// Appends `ok`, a value and what is written of it.
+pub fn append_leaf(mode: BERMode, leaf: Leaf, text: &mut Text) {
+    if let Some(element) = Element::alone(leaf, text) {
+        append_shown(mode, &element, text);
+    }
 }
 
 /// What is written of an element.
@@ -68,36 +76,30 @@ struct Kinds {
 }
 
 impl Both {
-    // The calls that a case names.
-    fn parse(alloc: Global, case: &Case) -> Option<Both> {
-        let first = Read::named(case.call)?;
-        let second = match case.second {
-            Some(name) => Read::named(name)?,
-            None => first,
-        };
-        Some(Both {
-            alloc,
-            first,
-            second,
-        })
-    }
-
-    // The answer of a call that was rejected, and whether the error is kept: both calls are made in a SEQUENCE of these
-    // bytes, which hold no more than a length of one byte can say; in CER, where it would have no length, without one.
-    fn outcome(self, mode: BERMode, case: &Case, bytes: &[u8], kind: ASN1ErrorKind) -> Outcome {
+    // Appends whether the error of a call is sticky: both calls are made in a SEQUENCE of these bytes, which hold no more than a
+    // length of one byte can say; in CER, where it would have no length, without one.
+    fn append_mark(
+        self,
+        mode: BERMode,
+        bytes: &[u8],
+        kind: ASN1ErrorKind,
+        differs: bool,
+        text: &mut Text,
+    ) -> bool {
         let length = match u8::try_from(bytes.len()) {
             Ok(length) if length <= 127 => length,
             _ if mode == BERMode::Cer => 0,
-            _ => return None,
+            _ => return false,
         };
         match sequence_of(self.alloc, mode, length, bytes) {
-            Ok(whole) => Some(self.marked(mode, &whole, kind, case.second.is_some())),
-            Err(_) => Some(Text::when_out_of_memory(self.alloc)),
+            Ok(whole) => text.push(self.mark(mode, &whole, kind, differs)),
+            Err(_) => text.out_of_memory = true,
         }
+        true
     }
 
-    // The answer of both calls in these bytes.
-    fn marked(self, mode: BERMode, whole: &[u8], kind: ASN1ErrorKind, differs: bool) -> Text {
+    // Whether the error of a call is sticky, by both calls in these bytes.
+    fn mark(self, mode: BERMode, whole: &[u8], kind: ASN1ErrorKind, differs: bool) -> &'static str {
         let mut kinds = Kinds {
             first: None,
             second: None,
@@ -108,9 +110,7 @@ impl Both {
             mode,
             |reader| self.read(reader, &mut kinds),
         ));
-        let mut text = Text::rejected(self.alloc, kind);
-        text.push(kinds.mark(parsed, kind, differs));
-        text
+        kinds.mark(parsed, kind, differs)
     }
 
     // Makes both calls, in CER in no SEQUENCE.
@@ -121,16 +121,10 @@ impl Both {
             return Ok(());
         }
         reader.read_sequence(move |seq| {
-            *kinds = self.read_parts(seq);
+            kinds.first = kind_of(self.first.read(self.alloc, seq.next()));
+            kinds.second = kind_of(self.second.read(self.alloc, seq.next()));
             Ok(())
         })
-    }
-
-    // Makes both calls, whatever the first returns.
-    fn read_parts(self, seq: &mut BERReaderSeq) -> Kinds {
-        let first = kind_of(self.first.read(self.alloc, seq.next()));
-        let second = kind_of(self.second.read(self.alloc, seq.next()));
-        Kinds { first, second }
     }
 }
 

@@ -4,10 +4,11 @@ use crate::calls::{CALLS, KINDS, RAW};
 use crate::kind::ElementType;
 use crate::leaf::Leaf;
 use crate::names::named;
-use crate::parts::{Element, Frame, Group, Part, Piece, append};
+use crate::parts::{Around, Element, Frame, Group, Part, Piece};
 use crate::steps::{Ask, Choice, Step, read_buffered, read_choices, read_steps};
+use crate::text::Text;
 use crate::tree::read_tree;
-use std::alloc::{AllocError, Global};
+use std::alloc::Global;
 use yasna::{ASN1Error, ASN1ErrorKind, ASN1Result, BERReader, Tag};
 
 /// What a call reads.
@@ -56,189 +57,213 @@ impl Read {
         if let Some(read) = named(&CALLS, name) {
             return Some(read);
         }
-        let kind = match named(&KINDS, name) {
-            Some(kind) => kind,
-            None => ElementType::Nest(name.strip_prefix("nest")?.parse().ok()?),
+        let kind = match (named(&KINDS, name), name.strip_prefix("nest")) {
+            (Some(kind), _) => kind,
+            (None, Some(depth)) => match depth.parse() {
+                Ok(depth) => ElementType::Nest(depth),
+                Err(_) => return None,
+            },
+            (None, None) => return None,
         };
         Some(Read(Then::Shown, Body::Alone(Piece(Frame::Plain, kind))))
     }
 
-    /// The element that a text is, as what this call reads is shown.
-    pub fn value(self, alloc: Global, text: &str) -> Option<Result<Element, AllocError>> {
-        let element = match self.1.value(alloc, text)? {
-            Ok(element) => element,
-            Err(out_of_memory) => return Some(Err(out_of_memory)),
+    /// The element that a text represents, as what this call reads is shown, if it does; without memory for it, that is noted in
+    /// a result.
+    pub fn value(self, text: &str, came: &mut Text) -> Option<Element> {
+        let mut parts = Vec::new(came.allocator());
+        let is_known = match self.1 {
+            Body::Alone(piece) => append(&mut parts, piece.value(text, came), came),
+            Body::Sequence(steps) => append_parts(&mut parts, steps, text, came),
+            _ => false,
         };
-        Some(Ok(match self.0 {
-            Then::Under(tag) => element.under(tag),
-            _ => element,
-        }))
+        if is_known {
+            Some(self.element(parts))
+        } else {
+            None
+        }
     }
 
     /// Makes the call.
     pub fn read(self, alloc: Global, reader: BERReader) -> ASN1Result<Element> {
         let Read(then, body) = self;
-        match then {
-            Then::Under(tag) => body.read_under(tag, alloc, reader),
-            _ => then.of(body.read(alloc, reader)),
+        let mut parts = Vec::new(alloc);
+        let read = match then {
+            Then::Under(tag) => {
+                reader.read_tagged_implicit(tag, |inner| body.read(inner, &mut parts))
+            }
+            _ => body.read(reader, &mut parts),
+        };
+        match (then, read) {
+            (Then::Replaced, _) => Err(ASN1Error::new(ASN1ErrorKind::Extra)),
+            (Then::Discarded, _) | (_, Ok(())) => Ok(self.element(parts)),
+            (_, Err(error)) => Err(error),
         }
     }
-}
 
-impl Then {
-    // What is made of what was read.
-    fn of(self, read: ASN1Result<Element>) -> ASN1Result<Element> {
-        match self {
-            Then::Discarded => Ok(Element::value(Leaf::Null)),
-            Then::Replaced => Err(ASN1Error::new(ASN1ErrorKind::Extra)),
-            Then::Shown | Then::Under(_) => read,
-            Then::Last => Ok(read?.last()),
-            Then::Null => null_for(read),
+    // What is made of these parts.
+    fn element(self, mut parts: Vec<Part>) -> Element {
+        let group = self.1.group();
+        match self.0 {
+            Then::Under(tag) => Element {
+                around: Around::Implicit(tag),
+                group,
+                parts,
+            },
+            Then::Last => Element::new(Group::Alone, parts),
+            Then::Null | Then::Discarded => {
+                parts.clear();
+                Element::new(Group::Alone, parts)
+            }
+            _ => Element::new(group, parts),
         }
-    }
-}
-
-// NULL in place of an element.
-fn null_for(read: ASN1Result<Element>) -> ASN1Result<Element> {
-    match read {
-        Ok(_) => Ok(Element::value(Leaf::Null)),
-        Err(error) => Err(error),
-    }
-}
-
-// The part alone that was read.
-fn alone(part: ASN1Result<Part>) -> ASN1Result<Element> {
-    match part {
-        Ok(part) => Ok(Element::alone(part)),
-        Err(error) => Err(error),
-    }
-}
-
-// The parts that were read.
-fn grouped(group: Group, parts: ASN1Result<Vec<Part>>) -> ASN1Result<Element> {
-    match parts {
-        Ok(parts) => Ok(Element::group(group, parts)),
-        Err(error) => Err(error),
     }
 }
 
 impl Body {
-    // The element that a text is.
-    fn value(self, alloc: Global, text: &str) -> Option<Result<Element, AllocError>> {
+    // What holds its parts.
+    fn group(self) -> Group {
         match self {
-            Body::Alone(piece) => match piece.value(alloc, text)? {
-                Ok(part) => Some(Ok(Element::alone(part))),
-                Err(out_of_memory) => Some(Err(out_of_memory)),
-            },
-            Body::Sequence(steps) => match parts_of(alloc, steps, text)? {
-                Ok(parts) => Some(Ok(Element::group(Group::Sequence, parts))),
-                Err(out_of_memory) => Some(Err(out_of_memory)),
-            },
-            _ => None,
+            Body::Sequence(_) => Group::Sequence,
+            Body::Set(_) => Group::Set,
+            Body::List(group, _) => group,
+            _ => Group::Alone,
         }
-    }
-
-    // Reads it under an implicit tag.
-    fn read_under(self, tag: Tag, alloc: Global, reader: BERReader) -> ASN1Result<Element> {
-        let element = reader.read_tagged_implicit(tag, |inner| self.read(alloc, inner))?;
-        Ok(element.under(tag))
     }
 
     // Reads it.
-    fn read(self, alloc: Global, reader: BERReader) -> ASN1Result<Element> {
+    fn read(self, reader: BERReader, parts: &mut Vec<Part>) -> ASN1Result<()> {
         match self {
-            Body::Alone(piece) => alone(piece.read(reader)),
-            Body::Buffered(piece) => alone(read_buffered(alloc, piece, reader)),
-            Body::Tree => alone(read_tree(alloc, reader)),
-            Body::Sequence(steps) => grouped(
-                Group::Sequence,
-                reader.read_sequence(|seq| read_steps(alloc, steps, seq)),
-            ),
-            Body::Set(steps) => grouped(
-                Group::Set,
-                reader.read_set(|set| read_choices(alloc, steps, set)),
-            ),
-            Body::List(group, piece) => read_list(group, piece, reader),
-            Body::Each(group, kind) => read_each(group, kind, reader),
+            Body::Alone(piece) => push(parts, piece.read(reader)),
+            Body::Buffered(piece) => {
+                let read = read_buffered(*parts.allocator(), piece, reader);
+                push(parts, read)
+            }
+            Body::Tree => {
+                let read = read_tree(*parts.allocator(), reader);
+                push(parts, read)
+            }
+            Body::Sequence(steps) => reader.read_sequence(|seq| read_steps(steps, seq, parts)),
+            Body::Set(steps) => reader.read_set(|set| read_choices(steps, set, parts)),
+            Body::List(group, piece) => read_list(group, piece, reader, parts),
+            Body::Each(group, kind) => push(parts, read_each(group, kind, reader)),
         }
+    }
+}
+
+/// Appends the part that was read.
+pub fn push(parts: &mut Vec<Part>, read: ASN1Result<Part>) -> ASN1Result<()> {
+    match read {
+        Ok(part) => match parts.push(part) {
+            Ok(()) => Ok(()),
+            Err(_) => Err(ASN1Error::new(ASN1ErrorKind::OutOfMemory)),
+        },
+        Err(error) => Err(error),
     }
 }
 
 // Collects the items of a list.
-fn read_list(group: Group, piece: Piece, reader: BERReader) -> ASN1Result<Element> {
+fn read_list(
+    group: Group,
+    piece: Piece,
+    reader: BERReader,
+    parts: &mut Vec<Part>,
+) -> ASN1Result<()> {
     let read = |item: BERReader| piece.read(item);
-    match group {
-        Group::SetOf => grouped(group, reader.collect_set_of(read)),
-        _ => grouped(group, reader.collect_sequence_of(read)),
+    let items = match group {
+        Group::SetOf => reader.collect_set_of(read),
+        _ => reader.collect_sequence_of(read),
+    };
+    match items {
+        Ok(items) => {
+            *parts = items;
+            Ok(())
+        }
+        Err(error) => Err(error),
+    }
+}
+
+// Adds the INTEGER that was read; nothing for anything else.
+fn add_number(read: ASN1Result<Leaf>, sum: &mut i64) -> ASN1Result<()> {
+    match read {
+        Ok(Leaf::I64(number)) => {
+            *sum = sum.wrapping_add(number);
+            Ok(())
+        }
+        Ok(_) => Ok(()),
+        Err(error) => Err(error),
     }
 }
 
 // Reads the sum of those items of a list that are INTEGERs.
-fn read_each(group: Group, kind: ElementType, reader: BERReader) -> ASN1Result<Element> {
+fn read_each(group: Group, kind: ElementType, reader: BERReader) -> ASN1Result<Part> {
     let mut sum = 0i64;
-    let add = |item: BERReader| {
-        sum = sum.wrapping_add(number_of(kind.read(item))?);
-        Ok(())
-    };
+    let add = |item: BERReader| add_number(kind.read(item), &mut sum);
     let read = match group {
         Group::SetOf => reader.read_set_of(add),
         _ => reader.read_sequence_of(add),
     };
     match read {
-        Ok(()) => Ok(Element::value(Leaf::I64(sum))),
+        Ok(()) => Ok(Part::new(Frame::Plain, Leaf::I64(sum))),
         Err(error) => Err(error),
     }
 }
 
-// The INTEGER that was read; 0 for anything else.
-fn number_of(read: ASN1Result<Leaf>) -> ASN1Result<i64> {
-    match read {
-        Ok(Leaf::I64(number)) => Ok(number),
-        Ok(_) => Ok(0),
-        Err(error) => Err(error),
-    }
+// Appends a part, if it is one; without memory for it, that is noted in a result.
+fn append(parts: &mut Vec<Part>, part: Option<Part>, came: &mut Text) -> bool {
+    let Some(part) = part else {
+        return false;
+    };
+    let appended = parts.push(part).is_ok();
+    came.out_of_memory = came.out_of_memory || !appended;
+    appended
 }
 
-// The parts of a SEQUENCE that a text is, in brackets and with commas between them.
-fn parts_of(
-    alloc: Global,
+// Appends the parts of a SEQUENCE that a text represents, in brackets and with commas between them, if it does.
+fn append_parts(
+    parts: &mut Vec<Part>,
     steps: &'static [Step],
     text: &str,
-) -> Option<Result<Vec<Part>, AllocError>> {
-    let inner = text.strip_prefix('(')?.strip_suffix(')')?;
-    let mut parts = Vec::new(alloc);
+    came: &mut Text,
+) -> bool {
+    let Some(inner) = unbracketed(text) else {
+        return false;
+    };
     let mut texts = inner.split(',');
     for step in steps {
-        let Step(Ask::Next, piece) = step else {
-            return None;
+        let (Step(Ask::Next, piece), Some(text)) = (step, texts.next()) else {
+            return false;
         };
-        if let Err(out_of_memory) = append_made(&mut parts, piece.value(alloc, texts.next()?)?) {
-            return Some(Err(out_of_memory));
+        if !append(parts, piece.value(text, came), came) {
+            return false;
         }
     }
-    Some(Ok(parts))
+    true
 }
 
-/// The elements that a text is, with commas between them; `-` alone is none, and among others an empty one. `none` is a part that isn't
-/// written.
-pub fn raw_parts(alloc: Global, text: &str) -> Option<Result<Vec<Part>, AllocError>> {
-    let mut parts = Vec::new(alloc);
+/// What is in a pair of brackets.
+pub fn unbracketed(text: &str) -> Option<&str> {
+    match text.strip_prefix('(') {
+        Some(others) => others.strip_suffix(')'),
+        None => None,
+    }
+}
+
+/// The elements that a text represents, with commas between them; `-` alone is none, and among others an empty one. `none` is a part
+/// that isn't written. Without memory for them, that is noted in a result.
+pub fn raw_parts(group: Group, text: &str, came: &mut Text) -> Option<Element> {
+    let mut parts = Vec::new(came.allocator());
     if text == "-" {
-        return Some(Ok(parts));
+        return Some(Element::new(group, parts));
     }
     for element in text.split(',') {
         let part = match element {
-            "none" => Ok(Part::plain(Leaf::Absent)),
-            _ => RAW.value(alloc, element)?,
+            "none" => Some(Part::new(Frame::Plain, Leaf::Absent)),
+            _ => RAW.value(element, came),
         };
-        if let Err(out_of_memory) = append_made(&mut parts, part) {
-            return Some(Err(out_of_memory));
+        if !append(&mut parts, part, came) {
+            return None;
         }
     }
-    Some(Ok(parts))
-}
-
-// Appends a part, if there was memory for it.
-fn append_made(parts: &mut Vec<Part>, part: Result<Part, AllocError>) -> Result<(), AllocError> {
-    append(parts, part?)
+    Some(Element::new(group, parts))
 }

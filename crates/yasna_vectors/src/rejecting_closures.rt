@@ -11,10 +11,8 @@
 //! construct_cer where MODE is `cer`.
 
 use crate::encodings::construct_in;
-use crate::names::named;
-use crate::outcome::Outcome;
+use crate::names::named_within;
 use crate::text::Text;
-use std::alloc::Global;
 use yasna::{ASN1Error, ASN1ErrorKind, ASN1Result, BERMode, DERWriter, DERWriterSeq, Tag};
 
 // A call that takes a closure.
@@ -68,32 +66,32 @@ impl Calls {
     }
 }
 
-/// What a call of this family returns.
-pub fn outcome(alloc: Global, mode: BERMode, call: &str, arg: &str) -> Outcome {
-    let (depth, calls) = parsed(call, arg.parse().ok()?)?;
-    let encoding = construct_in(alloc, mode, |writer| calls.write_within(writer, depth));
-    let mut text = Text::new(alloc, "ok ");
-    text.push_value(&calls.number);
-    Some(text.with_encoding(encoding))
-}
-
-// How many calls these are, and which.
-fn parsed(text: &str, number: i64) -> Option<(u8, Calls)> {
-    let (name, calls) = text.split_once(':')?;
-    let rejection = match name {
-        "thrown" => None,
-        "refused" => Some(ASN1ErrorKind::Extra),
-        _ => return None,
+/// Appends what a call of this family returns, and says whether there are such a call and argument.
+pub fn append_outcome(mode: BERMode, call: &str, arg: &str, text: &mut Text) -> bool {
+    let Ok(number) = arg.parse() else {
+        return false;
     };
-    let (depth, outer, inner) = match calls.split_once('.') {
-        Some((outer, inner)) => (2, outer, inner),
-        None => (1, calls, calls),
+    let (rejection, names) = match call.split_once(':') {
+        Some(("thrown", names)) => (None, names),
+        Some(("refused", names)) => (Some(ASN1ErrorKind::Extra), names),
+        _ => return false,
+    };
+    let Some((depth, inner, outer)) = named_within(&CALLS, names) else {
+        return false;
     };
     let calls = Calls {
-        inner: named(&CALLS, inner)?,
-        outer: named(&CALLS, outer)?,
+        inner,
+        outer,
         number,
         rejection,
     };
-    Some((depth, calls))
+    let encoding = construct_in(
+        text.allocator(),
+        mode,
+        |writer| calls.write_within(writer, depth),
+    );
+    text.push("ok ");
+    text.push_value(&number);
+    text.push_encoding(encoding);
+    true
 }

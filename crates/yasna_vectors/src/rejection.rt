@@ -6,9 +6,7 @@
 //! | `own N` | what try_construct_der returns where the closure writes N in a sequence and returns an error of its own |
 
 use crate::names::named;
-use crate::outcome::Outcome;
 use crate::text::Text;
-use std::alloc::Global;
 use yasna::{ASN1Error, ASN1ErrorKind, try_construct_der};
 
 // The kinds of errors by their names.
@@ -21,24 +19,27 @@ static KINDS: [(&str, ASN1ErrorKind); 6] = [
     ("OutOfMemory", ASN1ErrorKind::OutOfMemory),
 ];
 
-/// What a call of this family returns.
-pub fn outcome(alloc: Global, call: &str, arg: &str) -> Outcome {
-    match call {
-        "text" => Some(text(alloc, named(&KINDS, arg)?)),
-        "own" => Some(own(alloc, arg.parse().ok()?)),
-        _ => None,
+/// Appends what a call of this family returns, and says whether there is such an argument.
+pub fn append_outcome(call: &str, arg: &str, text: &mut Text) -> bool {
+    if call == "own" {
+        let Ok(number) = arg.parse() else {
+            return false;
+        };
+        append_own(number, text);
+        return true;
     }
-}
-
-// The text of an error.
-fn text(alloc: Global, kind: ASN1ErrorKind) -> Text {
+    let kind = match named(&KINDS, arg) {
+        Some(kind) if call == "text" => kind,
+        _ => return false,
+    };
     let error = ASN1Error::new(kind);
-    if error.kind() != kind {
-        return Text::new(alloc, "a refusal of another kind");
+    if error.kind() == kind {
+        text.push("ok ");
+        text.push_value(&error);
+    } else {
+        text.push("a refusal of another kind");
     }
-    let mut text = Text::new(alloc, "ok ");
-    text.push_value(&error);
-    text
+    true
 }
 
 /// The error type of a caller that has an error of its own.
@@ -59,18 +60,18 @@ impl From<ASN1Error> for OwnError {
     }
 }
 
-// Which error comes back.
-fn own(alloc: Global, number: i64) -> Text {
+// Appends which error comes back.
+fn append_own(number: i64, text: &mut Text) {
     let made = try_construct_der::<OwnError, _>(
-        alloc,
+        text.allocator(),
         |writer| writer.write_sequence(|seq| {
             seq.next().write_i64(number)?;
             Err(OwnError::Own)
         }),
     );
     match made {
-        Ok(_) => Text::new(alloc, "ok"),
-        Err(OwnError::Own) => Text::new(alloc, "own"),
-        Err(OwnError::Writing(error)) => Text::rejected(alloc, error.kind()),
+        Ok(_) => text.push("ok"),
+        Err(OwnError::Own) => text.push("own"),
+        Err(OwnError::Writing(error)) => text.reject(error.kind()),
     }
 }

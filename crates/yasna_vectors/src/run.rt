@@ -1,8 +1,8 @@
 //! All lines of a text, one after the other.
 
 use crate::line::{Case, VectorLine, is_outcome};
-use crate::outcome::{outcome, outcome_or_unknown};
-use std::alloc::{AllocError, Global};
+use crate::outcome::outcome;
+use crate::text::Text;
 
 /// How a run ended.
 #[derive(Clone, Copy)]
@@ -26,87 +26,64 @@ impl Verdict {
     }
 }
 
-/// What a run prints, and how it ended.
-#[derive(Drop)]
-pub struct Report {
-    pub text: String,
-    pub verdict: Verdict,
-}
-
-/// An answer for each line that has none.
-pub fn outcome_lines(alloc: Global, input: &str) -> Result<Report, AllocError> {
-    let mut text = String::new(alloc);
+/// Appends a result for each line that has none.
+pub fn append_outcomes(input: &str, text: &mut Text) -> Verdict {
     for line in input.lines() {
-        outcome_line(alloc, line, &mut text)?;
+        match Case::parse(line, false) {
+            Some(case) => text.push_text(&outcome(text.allocator(), case)),
+            None => text.push("unknown"),
+        }
+        text.push("\n");
     }
-    Ok(Report {
-        text,
-        verdict: Verdict::Right,
-    })
-}
-
-// Appends the result for a line.
-fn outcome_line(alloc: Global, line: &str, text: &mut String) -> Result<(), AllocError> {
-    match Case::parse(line, false) {
-        Some(case) => text.push_str(&outcome_or_unknown(alloc, &case)?)?,
-        None => text.push_str("unknown")?,
-    }
-    text.push('\n')
+    Verdict::Right
 }
 
 /// Checks the result of each line, and says how many there were.
-pub fn check_lines(alloc: Global, input: &str) -> Result<Report, AllocError> {
-    let mut text = String::new(alloc);
+pub fn check_lines(input: &str, text: &mut Text) -> Verdict {
     let mut count = 0u64;
     let mut failed = 0u64;
     for line in input.lines() {
         if line.is_empty() || line.starts_with('#') {
             continue;
         }
-        match check_line(alloc, line, &mut text)? {
+        match check_line(line, text) {
             Verdict::Right => (),
             Verdict::Wrong => failed = failed.saturating_add(1),
-            Verdict::NoLine => return Ok(Report {
-                text,
-                verdict: Verdict::NoLine,
-            }),
+            Verdict::NoLine => return Verdict::NoLine,
         }
         count = count.saturating_add(1);
     }
-    writeln!(text, "{count} lines, {failed} failed")?;
-    Ok(Report {
-        text,
-        verdict: Verdict::of(failed),
-    })
+    text.push_value(&count);
+    text.push(" lines, ");
+    text.push_value(&failed);
+    text.push(" failed\n");
+    Verdict::of(failed)
 }
 
 // Checks a line, and appends it where it isn't right.
-fn check_line(alloc: Global, line: &str, text: &mut String) -> Result<Verdict, AllocError> {
+fn check_line(line: &str, text: &mut Text) -> Verdict {
     let Some(parsed) = VectorLine::parse(line) else {
         return no_line("no line", line, text);
     };
-    match outcome(alloc, &parsed.case) {
-        Some(came) => compare(line, parsed.expected, came?.as_str(), text),
-        None => no_line("no such call or argument", line, text),
+    let came = outcome(text.allocator(), parsed.case);
+    if came.is_unknown {
+        return no_line("no such call or argument", line, text);
     }
+    if is_outcome(&came.text, parsed.expected) && !came.out_of_memory {
+        return Verdict::Right;
+    }
+    text.push(line);
+    text.push("\n    came ");
+    text.push_text(&came);
+    text.push("\n");
+    Verdict::Wrong
 }
 
 // Says why a line is none.
-fn no_line(why: &str, line: &str, text: &mut String) -> Result<Verdict, AllocError> {
-    writeln!(text, "{why}: {line}")?;
-    Ok(Verdict::NoLine)
-}
-
-// Compares what came with what a line wants, and appends both where they differ.
-fn compare(
-    line: &str,
-    expected: &str,
-    came: &str,
-    text: &mut String,
-) -> Result<Verdict, AllocError> {
-    if is_outcome(came, expected) {
-        return Ok(Verdict::Right);
-    }
-    writeln!(text, "{line}\n    came {came}")?;
-    Ok(Verdict::Wrong)
+fn no_line(why: &str, line: &str, text: &mut Text) -> Verdict {
+    text.push(why);
+    text.push(": ");
+    text.push(line);
+    text.push("\n");
+    Verdict::NoLine
 }

@@ -14,7 +14,7 @@
 //! | Step in a SET | Reads |
 //! |---|---|
 //! | `Next` | next with these tags |
-//! | `Asked` | nothing after next with these tags |
+//! | `Asked` | nothing after next with these tags; `none` is shown |
 //! | `AskedInVain` | the same, whatever next returns |
 //! | `Optional` | read_optional with these tags |
 //! | `OptionalDiscarded` | read_optional, discarded |
@@ -24,9 +24,9 @@
 
 use crate::calls::RAW;
 use crate::leaf::Leaf;
-use crate::parts::{Frame, Part, Piece, append};
+use crate::parts::{Frame, Part, Piece};
+use crate::reads::push;
 use std::alloc::Global;
-use yasna::tags::TAG_BOOLEAN;
 use yasna::{
     ASN1Error, ASN1ErrorKind, ASN1Result, BERReader, BERReaderSeq, BERReaderSet, Tag, TagClass,
 };
@@ -48,56 +48,70 @@ pub enum Ask {
 #[derive(Clone, Copy)]
 pub struct Step(pub Ask, pub Piece);
 
-/// A step in a SET.
+/// How an element of a SET is asked for.
 #[derive(Clone, Copy)]
-pub enum Choice {
-    Next(&'static [Tag], Piece),
-    Asked(&'static [Tag]),
-    AskedInVain(&'static [Tag]),
-    Optional(&'static [Tag], Piece),
-    OptionalDiscarded(&'static [Tag], Piece),
+pub enum SetAsk {
+    Next,
+    Asked,
+    AskedInVain,
+    Optional,
+    OptionalDiscarded,
     Default(bool),
     DefaultDiscarded(bool),
     Any,
 }
 
+/// A step in a SET: how an element is asked for, by which tags, and what it is read as.
+#[derive(Clone, Copy)]
+pub struct Choice(pub SetAsk, pub &'static [Tag], pub Piece);
+
 /// Takes these steps in a SEQUENCE.
-pub fn read_steps(alloc: Global, steps: &[Step], seq: &mut BERReaderSeq) -> ASN1Result<Vec<Part>> {
-    let mut parts = Vec::new(alloc);
+pub fn read_steps(steps: &[Step], seq: &mut BERReaderSeq, parts: &mut Vec<Part>) -> ASN1Result<()> {
     for step in steps {
-        if let Some(part) = step.read(alloc, seq)? {
-            append(&mut parts, part)?;
+        let read = step.read(*parts.allocator(), seq);
+        if let Ask::Discarded | Ask::OptionalDiscarded = step.0 {
+            continue;
+        }
+        if let Err(error) = push(parts, read) {
+            return Err(error);
         }
     }
-    Ok(parts)
+    Ok(())
 }
 
 /// Takes these steps in a SET.
 pub fn read_choices(
-    alloc: Global,
     steps: &[Choice],
     set: &mut BERReaderSet,
-) -> ASN1Result<Vec<Part>> {
-    let mut parts = Vec::new(alloc);
+    parts: &mut Vec<Part>,
+) -> ASN1Result<()> {
     for step in steps {
-        if let Choice::Any = step {
-            read_any(alloc, set, &mut parts)?;
-        } else if let Some(part) = step.read(set)? {
-            append(&mut parts, part)?;
+        let read = match step.0 {
+            SetAsk::Any => read_any(set, parts),
+            SetAsk::AskedInVain | SetAsk::OptionalDiscarded | SetAsk::DefaultDiscarded(_) => {
+                let _ = step.read(set);
+                continue;
+            }
+            _ => push(parts, step.read(set)),
+        };
+        if let Err(error) = read {
+            return Err(error);
         }
     }
-    Ok(parts)
+    Ok(())
 }
 
 // Reads the elements of a SET that have a tag numbered 0 to 199, each as it is.
-fn read_any(alloc: Global, set: &mut BERReaderSet, parts: &mut Vec<Part>) -> ASN1Result<()> {
-    let tags = all_tags(alloc)?;
+fn read_any(set: &mut BERReaderSet, parts: &mut Vec<Part>) -> ASN1Result<()> {
+    let tags = all_tags(*parts.allocator())?;
     for _ in 0..u64::MAX {
-        let part = match set.next(&tags) {
-            Ok(reader) => RAW.read(reader)?,
+        let read = match set.next(&tags) {
+            Ok(reader) => push(parts, RAW.read(reader)),
             Err(_) => break,
         };
-        append(parts, part)?;
+        if let Err(error) = read {
+            return Err(error);
+        }
     }
     Ok(())
 }
@@ -122,66 +136,55 @@ fn all_tags(alloc: Global) -> ASN1Result<Vec<Tag>> {
 
 /// Reads a part, and the bytes that it took.
 pub fn read_buffered(alloc: Global, piece: Piece, reader: BERReader) -> ASN1Result<Part> {
-    let (part, taken) = reader.read_with_buffer(|inner| piece.read(inner))?;
-    part.with_taken(alloc, taken)
+    with_taken(alloc, reader.read_with_buffer(|inner| piece.read(inner)))
 }
 
-// What is shown of a part that is discarded: nothing.
-fn discarded(_part: ASN1Result<Option<Part>>) -> ASN1Result<Option<Part>> {
-    Ok(None)
+// The part that was read, with the bytes that it took.
+fn with_taken(alloc: Global, read: ASN1Result<(Part, &[u8])>) -> ASN1Result<Part> {
+    match read {
+        Ok((part, taken)) => match Vec::from_slice(alloc, taken) {
+            Ok(taken) => Ok(Part {
+                frame: part.frame,
+                leaf: part.leaf,
+                taken: Some(taken),
+            }),
+            Err(_) => Err(ASN1Error::new(ASN1ErrorKind::OutOfMemory)),
+        },
+        Err(error) => Err(error),
+    }
+}
+
+// The part that was read, or that it is absent.
+fn or_absent(read: ASN1Result<Option<Part>>) -> ASN1Result<Part> {
+    match read {
+        Ok(Some(part)) => Ok(part),
+        Ok(None) => Ok(Part::new(Frame::Unwritten, Leaf::Absent)),
+        Err(error) => Err(error),
+    }
 }
 
 impl Step {
-    // Takes the step: the part that is shown, if any is.
-    fn read(self, alloc: Global, seq: &mut BERReaderSeq) -> ASN1Result<Option<Part>> {
+    // Takes the step: the part that is shown, unless it is discarded.
+    fn read(self, alloc: Global, seq: &mut BERReaderSeq) -> ASN1Result<Part> {
         let Step(ask, piece) = self;
         match ask {
-            Ask::Next => read_next(piece, seq),
-            Ask::Optional => read_optional(piece, seq),
-            Ask::Ten => read_ten(seq),
-            Ask::Discarded => discarded(read_next(piece, seq)),
-            Ask::OptionalDiscarded => discarded(read_optional(piece, seq)),
-            Ask::Buffered => read_parts_buffered(alloc, piece, seq),
-            Ask::NextBuffered => Ok(Some(read_buffered(alloc, piece, seq.next())?)),
+            Ask::Next | Ask::Discarded => piece.read(seq.next()),
+            Ask::Optional | Ask::OptionalDiscarded => {
+                or_absent(seq.read_optional(|part| piece.read(part)))
+            }
+            Ask::Ten => match seq.read_default(10, read_integer) {
+                Ok(10) => Ok(Part::new(Frame::Unwritten, Leaf::I64(10))),
+                Ok(other) => Ok(Part::new(Frame::Plain, Leaf::I64(other))),
+                Err(error) => Err(error),
+            },
+            Ask::Buffered => with_taken(
+                alloc,
+                seq.read_with_buffer(|parts| piece.read(parts.next())),
+            ),
+            Ask::NextBuffered => read_buffered(alloc, piece, seq.next()),
             Ask::Rejected(kind) => Err(ASN1Error::new(kind)),
         }
     }
-}
-
-// Reads the next part.
-fn read_next(piece: Piece, seq: &mut BERReaderSeq) -> ASN1Result<Option<Part>> {
-    Ok(Some(piece.read(seq.next())?))
-}
-
-// Reads the next part, and the bytes that the parts took for it.
-fn read_parts_buffered(
-    alloc: Global,
-    piece: Piece,
-    seq: &mut BERReaderSeq,
-) -> ASN1Result<Option<Part>> {
-    let (part, taken) = seq.read_with_buffer(|parts| piece.read(parts.next()))?;
-    Ok(Some(part.with_taken(alloc, taken)?))
-}
-
-// Reads a part that may be absent.
-fn read_optional(piece: Piece, seq: &mut BERReaderSeq) -> ASN1Result<Option<Part>> {
-    Ok(shown(seq.read_optional(|part| piece.read(part))?))
-}
-
-// The part, or that it is absent.
-fn shown(part: Option<Part>) -> Option<Part> {
-    match part {
-        Some(part) => Some(part),
-        None => Some(Part::unwritten(Leaf::Absent)),
-    }
-}
-
-// Reads an INTEGER, 10 where there is none.
-fn read_ten(seq: &mut BERReaderSeq) -> ASN1Result<Option<Part>> {
-    Ok(Some(match seq.read_default(10, read_integer)? {
-        10 => Part::unwritten(Leaf::I64(10)),
-        other => Part::plain(Leaf::I64(other)),
-    }))
 }
 
 // Reads an INTEGER.
@@ -190,50 +193,32 @@ fn read_integer(reader: BERReader) -> ASN1Result<i64> {
 }
 
 impl Choice {
-    // Takes the step: the element that is shown, if any is.
-    fn read(self, set: &mut BERReaderSet) -> ASN1Result<Option<Part>> {
-        match self {
-            Choice::Next(tags, piece) => read_next_element(tags, piece, set),
-            Choice::Asked(tags) => asked(tags, set),
-            Choice::AskedInVain(tags) => discarded(asked(tags, set)),
-            Choice::Optional(tags, piece) => read_element(tags, piece, set),
-            Choice::OptionalDiscarded(tags, piece) => discarded(read_element(tags, piece, set)),
-            Choice::Default(default) => read_flag(default, set),
-            Choice::DefaultDiscarded(default) => discarded(read_flag(default, set)),
-            Choice::Any => Ok(None),
+    // Takes the step: the element that is shown, unless it is discarded.
+    fn read(self, set: &mut BERReaderSet) -> ASN1Result<Part> {
+        let Choice(ask, tags, piece) = self;
+        match ask {
+            SetAsk::Next | SetAsk::Any => match set.next(tags) {
+                Ok(reader) => piece.read(reader),
+                Err(error) => Err(error),
+            },
+            SetAsk::Asked | SetAsk::AskedInVain => match set.next(tags) {
+                Ok(_) => Ok(Part::new(Frame::Unwritten, Leaf::Absent)),
+                Err(error) => Err(error),
+            },
+            SetAsk::Optional | SetAsk::OptionalDiscarded => {
+                or_absent(set.read_optional(tags, |part| piece.read(part)))
+            }
+            SetAsk::Default(default) | SetAsk::DefaultDiscarded(default) => {
+                match set.read_default(tags, default, read_boolean) {
+                    Ok(flag) if flag == default => {
+                        Ok(Part::new(Frame::Unwritten, Leaf::Bool(flag)))
+                    }
+                    Ok(flag) => Ok(Part::new(Frame::Plain, Leaf::Bool(flag))),
+                    Err(error) => Err(error),
+                }
+            }
         }
     }
-}
-
-// Reads the next element with these tags.
-fn read_next_element(
-    tags: &[Tag],
-    piece: Piece,
-    set: &mut BERReaderSet,
-) -> ASN1Result<Option<Part>> {
-    Ok(Some(piece.read(set.next(tags)?)?))
-}
-
-// Asks for the next element with these tags, and doesn't read it.
-fn asked(tags: &[Tag], set: &mut BERReaderSet) -> ASN1Result<Option<Part>> {
-    set.next(tags)?;
-    Ok(None)
-}
-
-// Reads an element that may be absent.
-fn read_element(tags: &[Tag], piece: Piece, set: &mut BERReaderSet) -> ASN1Result<Option<Part>> {
-    Ok(shown(set.read_optional(tags, |part| piece.read(part))?))
-}
-
-// Reads a BOOLEAN, which is the default where there is none.
-fn read_flag(default: bool, set: &mut BERReaderSet) -> ASN1Result<Option<Part>> {
-    let flag = set.read_default(&[TAG_BOOLEAN], default, read_boolean)?;
-    let frame = if flag == default {
-        Frame::Unwritten
-    } else {
-        Frame::Plain
-    };
-    Ok(Some(Part::new(frame, Leaf::Bool(flag))))
 }
 
 // Reads a BOOLEAN.

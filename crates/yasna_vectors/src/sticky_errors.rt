@@ -19,8 +19,7 @@
 //!
 //! The result is `err KIND` only where each call returned that kind, from the innermost to the parse.
 
-use crate::names::named;
-use crate::outcome::Outcome;
+use crate::names::named_within;
 use crate::reading::kind_of;
 use crate::text::Text;
 use std::alloc::Global;
@@ -153,61 +152,43 @@ fn read_parts<B: Body>(
     outcomes.discard(discarded)
 }
 
-// The calls around a read, from the outer one.
-#[derive(Clone, Copy)]
-enum Calls {
-    None,
-    One(Call),
-    Two(Call, Call),
-}
-
-/// What a call of this family returns on these bytes.
-pub fn outcome(alloc: Global, mode: BERMode, call: &str, bytes: &[u8]) -> Outcome {
-    let (name, calls) = call.split_once(':')?;
-    let replaces = match name {
-        "drop" => false,
-        "replace" => true,
-        _ => return None,
+/// Appends what a call of this family returns on these bytes, and says whether there is one of this name.
+pub fn append_outcome(mode: BERMode, call: &str, bytes: &[u8], text: &mut Text) -> bool {
+    let (replaces, names) = match call.split_once(':') {
+        Some(("drop", names)) => (false, names),
+        Some(("replace", names)) => (true, names),
+        _ => return false,
     };
-    Some(calls_named(calls)?.outcome(alloc, mode, bytes, replaces))
-}
-
-// The calls of these names.
-fn calls_named(names: &str) -> Option<Calls> {
-    if names == "parse" {
-        return Some(Calls::None);
+    let named = match names {
+        "parse" => Some((0, Call::Sequence, Call::Sequence)),
+        _ => named_within(&CALLS, names),
+    };
+    let Some((depth, inner, outer)) = named else {
+        return false;
+    };
+    let mut outcomes = Outcomes {
+        first: None,
+        others: false,
+        replaces,
+    };
+    let alloc = text.allocator();
+    let body = Around {
+        call: inner,
+        body: Integer,
+    };
+    match depth {
+        0 => parse(alloc, mode, bytes, Integer, &mut outcomes),
+        1 => parse(alloc, mode, bytes, body, &mut outcomes),
+        _ => parse(
+            alloc,
+            mode,
+            bytes,
+            Around { call: outer, body },
+            &mut outcomes,
+        ),
     }
-    match names.split_once('.') {
-        Some((outer, inner)) => Some(Calls::Two(named(&CALLS, outer)?, named(&CALLS, inner)?)),
-        None => Some(Calls::One(named(&CALLS, names)?)),
-    }
-}
-
-impl Calls {
-    // What they return on these bytes.
-    fn outcome(self, alloc: Global, mode: BERMode, bytes: &[u8], replaces: bool) -> Text {
-        let mut outcomes = Outcomes {
-            first: None,
-            others: false,
-            replaces,
-        };
-        let body = Integer;
-        match self {
-            Calls::None => parse(alloc, mode, bytes, body, &mut outcomes),
-            Calls::One(call) => parse(alloc, mode, bytes, Around { call, body }, &mut outcomes),
-            Calls::Two(outer, inner) => {
-                let body = Around { call: inner, body };
-                parse(
-                    alloc,
-                    mode,
-                    bytes,
-                    Around { call: outer, body },
-                    &mut outcomes,
-                );
-            }
-        }
-        shown(alloc, outcomes)
-    }
+    append_shown(outcomes, text);
+    true
 }
 
 // Makes a parse whose callback discards what it reads.
@@ -217,14 +198,13 @@ fn parse<B: Body>(alloc: Global, mode: BERMode, bytes: &[u8], body: B, outcomes:
     outcomes.note(whole);
 }
 
-// The answer of calls, where each returned the first error.
-fn shown(alloc: Global, outcomes: Outcomes) -> Text {
-    let Some(kind) = outcomes.first else {
-        return Text::new(alloc, "ok");
-    };
-    let mut text = Text::rejected(alloc, kind);
+// Appends the result of calls, where each returned the first error.
+fn append_shown(outcomes: Outcomes, text: &mut Text) {
+    match outcomes.first {
+        Some(kind) => text.reject(kind),
+        None => text.push("ok"),
+    }
     if outcomes.others {
         text.push(", and another answer behind it");
     }
-    text
 }

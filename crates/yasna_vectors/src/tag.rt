@@ -10,9 +10,7 @@
 //! | `order_class`, `order_bit` | the same of classes by letter, and of `primitive` and `constructed` |
 
 use crate::names::named;
-use crate::outcome::Outcome;
 use crate::text::Text;
-use std::alloc::Global;
 use std::cmp::Ordering;
 use yasna::{PCBit, Tag, TagClass, tags};
 
@@ -72,20 +70,19 @@ static BITS: [(&str, PCBit); 2] = [
     ("constructed", PCBit::Constructed),
 ];
 
-/// What a call of this family returns.
-pub fn outcome(alloc: Global, call: &str, arg: &str) -> Outcome {
-    Some(match call {
-        "tag" => shown(alloc, named(&TAGS, arg)?),
-        "tag_of" => shown(alloc, parsed(arg)?),
-        call => ordered(alloc, order(call, arg)?),
-    })
-}
-
-// A tag as text.
-fn shown(alloc: Global, tag: Tag) -> Text {
-    let mut text = Text::new(alloc, "ok ");
-    show_tag(tag, &mut text);
-    text
+/// Appends what a call of this family returns, and says whether there are such a call and argument.
+pub fn append_outcome(call: &str, arg: &str, text: &mut Text) -> bool {
+    let tag = match call {
+        "tag" => named(&TAGS, arg),
+        "tag_of" => parsed(arg),
+        _ => return append_order(call, arg, text),
+    };
+    let Some(tag) = tag else {
+        return false;
+    };
+    text.push("ok ");
+    show_tag(tag, text);
+    true
 }
 
 /// Shows a tag.
@@ -99,39 +96,43 @@ pub fn show_tag(tag: Tag, text: &mut Text) {
     text.push_value(&tag.tag_number);
 }
 
-// The answer with this order.
-fn ordered(alloc: Global, order: Ordering) -> Text {
-    Text::new(
-        alloc,
-        match order {
-            Ordering::Less => "ok Less",
-            Ordering::Equal => "ok Equal",
-            Ordering::Greater => "ok Greater",
-        },
-    )
-}
-
-// How the two that a text names compare by this call.
-fn order(call: &str, text: &str) -> Option<Ordering> {
-    let (left, right) = text.split_once(',')?;
-    match call {
+// Appends how the two that a text names compare by this call, and says whether there are such a call and text.
+fn append_order(call: &str, arg: &str, text: &mut Text) -> bool {
+    let Some((left, right)) = arg.split_once(',') else {
+        return false;
+    };
+    let order = match call {
         "order" => compared(parsed(left), parsed(right)),
         "order_class" => compared(named(&CLASSES, left), named(&CLASSES, right)),
         "order_bit" => compared(named(&BITS, left), named(&BITS, right)),
         _ => None,
-    }
+    };
+    text.push(match order {
+        Some(Ordering::Less) => "ok Less",
+        Some(Ordering::Equal) => "ok Equal",
+        Some(Ordering::Greater) => "ok Greater",
+        None => return false,
+    });
+    true
 }
 
 // How two values compare.
 fn compared<T: Ord + Copy>(left: Option<T>, right: Option<T>) -> Option<Ordering> {
-    Some(left?.cmp(&right?))
+    match (left, right) {
+        (Some(left), Some(right)) => Some(left.cmp(&right)),
+        _ => None,
+    }
 }
 
 // The tag of this text.
 fn parsed(text: &str) -> Option<Tag> {
-    let (letter, number) = text.split_at_checked(1)?;
-    let tag_number = number.parse().ok()?;
-    Some(match named(&CLASSES, letter)? {
+    let Some((letter, number)) = text.split_at_checked(1) else {
+        return None;
+    };
+    let (Some(class), Ok(tag_number)) = (named(&CLASSES, letter), number.parse()) else {
+        return None;
+    };
+    Some(match class {
         TagClass::Universal => Tag {
             tag_class: TagClass::Universal,
             tag_number,

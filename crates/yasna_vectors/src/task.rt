@@ -10,8 +10,8 @@
 use crate::hostile::{Group, check_group};
 use crate::memory::run_lines;
 use crate::names::named;
-use crate::run::{Report, Verdict, check_lines, outcome_lines};
-use std::alloc::{AllocError, Global};
+use crate::run::{Verdict, append_outcomes, check_lines};
+use crate::text::Text;
 
 /// A task of the program.
 #[derive(Clone, Copy)]
@@ -33,45 +33,37 @@ static TASKS: [(&str, Task); 5] = [
 ];
 
 impl Task {
-    /// The task that these words name.
+    /// The task that these words name, of which the first is the program's name.
     pub fn parse(words: &[String]) -> Option<Task> {
         match words {
-            [] => Some(Task::All),
-            [word] => named(&TASKS, word.as_str()),
+            [] | [_] => Some(Task::All),
+            [_, word] => named(&TASKS, word.as_str()),
             _ => None,
         }
     }
 
-    /// Does it on these lines: what came of it.
-    pub fn run(self, alloc: Global, input: &str) -> Result<Report, AllocError> {
+    /// Does it on these lines, and appends what came of it.
+    pub fn run(self, input: &str, text: &mut Text) -> Verdict {
         match self {
-            Task::All => run_all(alloc, input),
-            Task::Lines => check_lines(alloc, input),
-            Task::Outcomes => outcome_lines(alloc, input),
-            Task::Group(group) => check_group(alloc, group, input),
-            Task::Memory => run_lines(alloc, input),
+            Task::All => run_all(input, text),
+            Task::Lines => check_lines(input, text),
+            Task::Outcomes => append_outcomes(input, text),
+            Task::Group(group) => check_group(group, input, text),
+            Task::Memory => run_lines(input, text),
         }
     }
 }
 
-// Checks the lines as they are, cut, and with other lengths.
-fn run_all(alloc: Global, input: &str) -> Result<Report, AllocError> {
-    let lines = check_lines(alloc, input)?;
-    if let Verdict::NoLine = lines.verdict {
-        return Ok(lines);
+// Checks the lines as they are, cut, and with other lengths: it is wrong where one of them is.
+fn run_all(input: &str, text: &mut Text) -> Verdict {
+    let lines = check_lines(input, text);
+    if let Verdict::NoLine = lines {
+        return lines;
     }
-    let cuts = check_group(alloc, Group::Cut, input)?;
-    let lengths = check_group(alloc, Group::Length, input)?;
-    both(lines, both(cuts, lengths)?)
-}
-
-// Two reports in one: it is wrong where one of them is.
-fn both(first: Report, second: Report) -> Result<Report, AllocError> {
-    let mut text = first.text;
-    text.push_str(second.text.as_str())?;
-    let verdict = match first.verdict {
-        Verdict::Right => second.verdict,
-        other => other,
-    };
-    Ok(Report { text, verdict })
+    let cuts = check_group(Group::Cut, input, text);
+    let lengths = check_group(Group::Length, input, text);
+    match (lines, cuts, lengths) {
+        (Verdict::Right, Verdict::Right, Verdict::Right) => Verdict::Right,
+        _ => Verdict::Wrong,
+    }
 }

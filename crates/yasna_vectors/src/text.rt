@@ -1,4 +1,4 @@
-//! Returns as text, which is made piece by piece.
+//! Results as text, which is made piece by piece.
 ghost use Rattle.std.specs.Prelude.{◌≡◌, ◌++◌, OnOk, string_bytes};
 ghost use Rattle.hex.specs.Hex.{encode_lower};
 
@@ -6,66 +6,45 @@ use std::alloc::{AllocError, Global};
 use std::fmt::{Debug, Display};
 use yasna::{ASN1ErrorKind, ASN1Result};
 
-// Room for most returns: with it a text allocates once, where each request is rejected in turn.
+// Room for most results: with it a text allocates once, where each request is rejected in turn.
 const ROOM: usize = 2_000;
 
 /// The text of a result. Where there was no memory for a piece of it, that is known at its end.
 #[derive(Drop)]
 pub struct Text {
-    text: String,
-    header_missing: bool,
+    pub text: String,
+    pub out_of_memory: bool,
+    /// Whether it says that there is no such call, or no such argument of it.
+    pub is_unknown: bool,
 }
 
 impl Text {
-    /// A text that begins so.
-    pub fn new(alloc: Global, beginning: &str) -> Text {
-        let mut text = match String::with_capacity(alloc, ROOM) {
-            Ok(text) => Text {
-                text,
-                header_missing: false,
-            },
-            Err(_) => return Text::when_out_of_memory(alloc),
-        };
-        text.push(beginning);
-        text
-    }
-
-    /// A text that there was no memory for.
-    pub fn when_out_of_memory(alloc: Global) -> Text {
+    /// A text with nothing in it, nor memory for anything.
+    pub fn new(alloc: Global) -> Text {
         Text {
             text: String::new(alloc),
-            header_missing: true,
+            out_of_memory: false,
+            is_unknown: false,
         }
     }
 
-    /// The answer of an error.
-    pub fn rejected(alloc: Global, kind: ASN1ErrorKind) -> Text {
-        let mut text = Text::new(alloc, "err ");
-        text.push_kind(kind);
+    /// A text with nothing in it, and memory for most results.
+    pub fn with_room(alloc: Global) -> Text {
+        let mut text = Text::new(alloc);
+        let made = text.text.reserve(ROOM);
+        text.note(made);
         text
     }
 
-    /// The answer `ok`, with these counts.
-    pub fn counts(alloc: Global, counts: &[usize]) -> Text {
-        let mut text = Text::new(alloc, "ok");
-        for count in counts {
-            text.push(" ");
-            text.push_value(count);
-        }
-        text
-    }
-
-    // Appends the kind of an error.
-    fn push_kind(&mut self, kind: ASN1ErrorKind) {
-        let text = &mut self.text;
-        let made = write!(text, "{kind:?}");
-        self.note(made);
+    /// Where its memory is from.
+    pub fn allocator(&self) -> Global {
+        *self.text.allocator()
     }
 
     // Notes whether there was memory for a piece.
     fn note(&mut self, made: Result<(), AllocError>) {
         if made.is_err() {
-            self.header_missing = true;
+            self.out_of_memory = true;
         }
     }
 
@@ -75,23 +54,10 @@ impl Text {
         self.note(made);
     }
 
-    /// Appends a character.
-    pub fn push_character(&mut self, character: char) {
-        let made = self.text.push(character);
-        self.note(made);
-    }
-
     /// Appends a text, if there was memory for it.
-    pub fn push_made(&mut self, made: Result<String, AllocError>) {
-        match made {
-            Ok(piece) => self.push(&piece),
-            Err(_) => self.header_missing = true,
-        }
-    }
-
-    /// Where its memory is from.
-    pub fn allocator(&self) -> Global {
-        *self.text.allocator()
+    pub fn push_text(&mut self, other: &Text) {
+        self.push(&other.text);
+        self.out_of_memory = self.out_of_memory || other.out_of_memory;
     }
 
     /// Appends a value as Rust shows it.
@@ -106,20 +72,22 @@ impl Text {
     pub fn push_plain<T: Debug>(value: &T, text: &mut Text) {
         match format!(in text.allocator(); "{value:?}") {
             Ok(shown) => text.push_rewritten(&shown),
-            Err(_) => text.header_missing = true,
+            Err(_) => text.out_of_memory = true,
         }
     }
 
     // Appends what shows a value so.
     fn push_rewritten(&mut self, shown: &str) {
         for character in shown.chars() {
-            match character {
-                ',' => (),
-                ' ' => self.push(","),
-                '[' => self.push("("),
-                ']' => self.push(")"),
-                other => self.push_character(other),
-            }
+            let character = match character {
+                ',' => continue,
+                ' ' => ',',
+                '[' => '(',
+                ']' => ')',
+                other => other,
+            };
+            let made = self.text.push(character);
+            self.note(made);
         }
     }
 
@@ -129,32 +97,23 @@ impl Text {
         self.note(made);
     }
 
-    /// The answer with what was written after it; that of the error where the write was rejected.
-    pub fn with_encoding(mut self, encoding: ASN1Result<Vec<u8>>) -> Text {
+    /// Appends what was written; where the write was rejected, that is the result.
+    pub fn push_encoding(&mut self, encoding: ASN1Result<Vec<u8>>) {
         match encoding {
-            Ok(encoding) => self.push_encoding(&encoding),
-            Err(error) => {
-                self.text.clear();
-                self.push("err ");
-                self.push_kind(error.kind());
+            Ok(encoding) => {
+                self.push(if encoding.is_empty() { " -" } else { " " });
+                self.push_bytes(&encoding);
             }
+            Err(error) => self.reject(error.kind()),
         }
-        self
     }
 
-    // Appends what was written.
-    fn push_encoding(&mut self, encoding: &[u8]) {
-        self.push(if encoding.is_empty() { " -" } else { " " });
-        self.push_bytes(encoding);
-    }
-
-    /// The whole text.
-    pub fn finish(self) -> Result<String, AllocError> {
-        if self.header_missing {
-            Err(AllocError)
-        } else {
-            Ok(self.text)
-        }
+    /// The result is this error.
+    pub fn reject(&mut self, kind: ASN1ErrorKind) {
+        self.text.clear();
+        let text = &mut self.text;
+        let made = write!(text, "err {kind:?}");
+        self.note(made);
     }
 }
 

@@ -5,33 +5,26 @@
 //! nanosecond; `p:gtimeoff` returns `-` in place of the encoding.
 
 use crate::leaf::{Leaf, show_generalized_time};
-use crate::line::bytes_of;
-use crate::outcome::Outcome;
-use crate::parts::Element;
-use crate::reading::shown;
+use crate::line::octets;
+use crate::reading::append_leaf;
 use crate::text::Text;
-use std::alloc::{AllocError, Global};
+use std::alloc::AllocError;
 use yasna::BERMode;
 use yasna::models::{GeneralizedTime, Offset, UTCTime};
 
-/// What a call on a text returns.
-pub fn outcome(alloc: Global, call: &str, arg: &str) -> Outcome {
-    let (offset, text) = match arg.split_once('/') {
-        Some((seconds, text)) => (Some(offset(seconds)?), text),
+/// Appends what a call on a text returns, and says whether there are such a call and argument.
+pub fn append_outcome(call: &str, arg: &str, text: &mut Text) -> bool {
+    let (offset, time) = match arg.split_once('/') {
+        Some((seconds, time)) => match offset(seconds) {
+            Some(offset) => (Some(offset), time),
+            None => return false,
+        },
         None => (None, arg),
     };
-    let Ok(bytes) = bytes_of(alloc, text)? else {
-        return Some(Text::when_out_of_memory(alloc));
-    };
-    Some(match (call, offset) {
-        ("p:utime", None) => utc_outcome(alloc, UTCTime::parse(&bytes)),
-        ("p:gtime", None) => general_outcome(alloc, GeneralizedTime::parse(alloc, &bytes)),
-        ("p:gtimeoff", Some(offset)) => local_outcome(
-            alloc,
-            GeneralizedTime::parse_with_offset(alloc, &bytes, offset),
-        ),
-        _ => return None,
-    })
+    match octets(time, text) {
+        Some(bytes) => append_parsed(call, &bytes, offset, text),
+        None => false,
+    }
 }
 
 // The offset of so many seconds.
@@ -39,53 +32,55 @@ fn offset(seconds: &str) -> Option<Offset> {
     Offset::from_seconds(seconds.parse().ok()?).ok()
 }
 
-// What parsing a text of UTCTime returns.
-fn utc_outcome(alloc: Global, parsed: Option<UTCTime>) -> Text {
-    match parsed {
-        Some(time) => time_outcome(alloc, Leaf::UtcTime(time)),
-        None => Text::new(alloc, "none"),
+// Appends what parsing these bytes returns.
+fn append_parsed(call: &str, bytes: &[u8], offset: Option<Offset>, text: &mut Text) -> bool {
+    let alloc = text.allocator();
+    match (call, offset) {
+        ("p:utime", None) => match UTCTime::parse(bytes) {
+            Some(time) => append_leaf(BERMode::Der, Leaf::UtcTime(time), text),
+            None => text.push("none"),
+        },
+        ("p:gtime", None) => append_time(GeneralizedTime::parse(alloc, bytes), false, text),
+        ("p:gtimeoff", Some(offset)) => append_time(
+            GeneralizedTime::parse_with_offset(alloc, bytes, offset),
+            true,
+            text,
+        ),
+        _ => return false,
     }
+    true
 }
 
-// What parsing a text of GeneralizedTime returns.
-fn general_outcome(alloc: Global, parsed: Result<Option<GeneralizedTime>, AllocError>) -> Text {
+// Appends a time, its encoding and the parts of its fraction; the time alone where it may be local.
+fn append_time(
+    parsed: Result<Option<GeneralizedTime>, AllocError>,
+    may_be_local: bool,
+    text: &mut Text,
+) {
     match parsed {
-        Ok(Some(time)) => {
-            let mut fraction = Text::new(alloc, " sub=");
-            show_fraction(&time, &mut fraction);
-            let mut outcome = time_outcome(alloc, Leaf::GeneralizedTime(time));
-            outcome.push_made(fraction.finish());
-            outcome
+        Ok(Some(time)) if may_be_local => {
+            text.push("ok ");
+            show_generalized_time(&time, text);
+            text.push(" -");
         }
-        Ok(None) => Text::new(alloc, "none"),
-        Err(_) => Text::when_out_of_memory(alloc),
-    }
-}
-
-// The answer with a time.
-fn time_outcome(alloc: Global, time: Leaf) -> Text {
-    shown(alloc, BERMode::Der, &Element::value(time))
-}
-
-// Shows the parts of a time's fraction.
-fn show_fraction(time: &GeneralizedTime, text: &mut Text) {
-    for digit in time.sub_nano() {
-        text.push_character(char::from(*digit));
-    }
-    text.push(" ns=");
-    text.push_value(&time.datetime().subsec_nanosecond());
-}
-
-// What parsing a text that may be local returns: the time alone.
-fn local_outcome(alloc: Global, parsed: Result<Option<GeneralizedTime>, AllocError>) -> Text {
-    match parsed {
         Ok(Some(time)) => {
-            let mut outcome = Text::new(alloc, "ok ");
-            show_generalized_time(&time, &mut outcome);
-            outcome.push(" -");
-            outcome
+            let fraction = fraction(&time, text);
+            append_leaf(BERMode::Der, Leaf::GeneralizedTime(time), text);
+            text.push_text(&fraction);
         }
-        Ok(None) => Text::new(alloc, "none"),
-        Err(_) => Text::when_out_of_memory(alloc),
+        Ok(None) => text.push("none"),
+        Err(_) => text.out_of_memory = true,
     }
+}
+
+// What shows the digits after the nanosecond, and the nanosecond.
+fn fraction(time: &GeneralizedTime, text: &Text) -> Text {
+    let mut fraction = Text::with_room(text.allocator());
+    fraction.push(" sub=");
+    if let Ok(digits) = str::from_utf8(time.sub_nano()) {
+        fraction.push(digits);
+    }
+    fraction.push(" ns=");
+    fraction.push_value(&time.datetime().subsec_nanosecond());
+    fraction
 }

@@ -15,6 +15,7 @@ use crate::kind::ElementType;
 use crate::leaf::Leaf;
 use crate::parts::{Element, Frame, Group, Part, Piece};
 use crate::reading::encoding_of;
+use crate::reads::push;
 use crate::strings::Class;
 use crate::text::Text;
 use std::alloc::Global;
@@ -22,7 +23,7 @@ use yasna::tags::{
     TAG_BITSTRING, TAG_BOOLEAN, TAG_ENUM, TAG_GENERALIZEDTIME, TAG_NULL, TAG_OCTETSTRING, TAG_OID,
     TAG_PRINTABLESTRING, TAG_SEQUENCE, TAG_SET, TAG_UTCTIME, TAG_UTF8STRING,
 };
-use yasna::{ASN1Result, BERMode, BERReader, Tag, TagClass};
+use yasna::{ASN1Error, ASN1ErrorKind, ASN1Result, BERMode, BERReader, Tag, TagClass};
 
 // The types that hold no element.
 static KINDS: [(Tag, ElementType); 10] = [
@@ -40,42 +41,75 @@ static KINDS: [(Tag, ElementType); 10] = [
 
 /// Reads an element by its tag.
 pub fn read_tree(alloc: Global, reader: BERReader) -> ASN1Result<Part> {
-    let tag = reader.lookahead_tag()?;
+    let tag = match reader.lookahead_tag() {
+        Ok(tag) => tag,
+        Err(error) => return Err(error),
+    };
     let mode = reader.mode();
     let read = |inner: BERReader| -> ASN1Result<Part>
         requires { IsFresh inner.old }
     { read_tree(alloc, inner) };
-    let element = match tag.tag_class {
-        TagClass::Application => {
-            Element::alone(Piece(Frame::Implicit(tag), ElementType::Bytes).read(reader)?)
-        }
-        TagClass::ContextSpecific => {
-            let inner = reader.read_tagged(tag, read)?;
-            Element::alone(Part::new(Frame::Explicit(tag), inner.leaf))
-        }
-        _ if tag == TAG_SEQUENCE => {
-            Element::group(Group::SequenceOf, reader.collect_sequence_of(read)?)
-        }
-        _ if tag == TAG_SET => Element::group(Group::SetOf, reader.collect_set_of(read)?),
-        _ => Element::alone(Piece(Frame::Plain, kind_of(tag)).read(reader)?),
+    let (group, parts) = if tag == TAG_SEQUENCE {
+        (Group::SequenceOf, reader.collect_sequence_of(read))
+    } else if tag == TAG_SET {
+        (Group::SetOf, reader.collect_set_of(read))
+    } else if tag.tag_class == TagClass::ContextSpecific {
+        (
+            Group::Alone,
+            one(alloc, under(tag, reader.read_tagged(tag, read))),
+        )
+    } else {
+        (Group::Alone, one(alloc, piece_of(tag).read(reader)))
     };
-    known(alloc, mode, &element)
+    known(alloc, mode, group, parts)
 }
 
-// The type of this tag.
-fn kind_of(tag: Tag) -> ElementType {
+// The part alone that was read.
+fn one(alloc: Global, read: ASN1Result<Part>) -> ASN1Result<Vec<Part>> {
+    let mut parts = Vec::new(alloc);
+    match push(&mut parts, read) {
+        Ok(()) => Ok(parts),
+        Err(error) => Err(error),
+    }
+}
+
+// The part that was read, which is under this tag.
+fn under(tag: Tag, read: ASN1Result<Part>) -> ASN1Result<Part> {
+    match read {
+        Ok(part) => Ok(Part::new(Frame::Explicit(tag), part.leaf)),
+        Err(error) => Err(error),
+    }
+}
+
+// What an element of this tag is read as that holds no element.
+fn piece_of(tag: Tag) -> Piece {
+    if tag.tag_class == TagClass::Application {
+        return Piece(Frame::Implicit(tag), ElementType::Bytes);
+    }
     for (known, kind) in &KINDS {
         if *known == tag {
-            return *kind;
+            return Piece(Frame::Plain, *kind);
         }
     }
-    ElementType::BigInteger
+    Piece(Frame::Plain, ElementType::BigInteger)
 }
 
-// How an element is shown, and its encoding.
-fn known(alloc: Global, mode: BERMode, element: &Element) -> ASN1Result<Part> {
-    let encoding = encoding_of(alloc, mode, element)?;
-    let mut shown = Text::new(alloc, "");
+// How an element of these parts is shown, and its encoding.
+fn known(
+    alloc: Global,
+    mode: BERMode,
+    group: Group,
+    parts: ASN1Result<Vec<Part>>,
+) -> ASN1Result<Part> {
+    let element = match parts {
+        Ok(parts) => Element::new(group, parts),
+        Err(error) => return Err(error),
+    };
+    let mut shown = Text::with_room(alloc);
     element.show(&mut shown);
-    Ok(Part::plain(Leaf::Known(shown.finish()?, encoding)))
+    match encoding_of(alloc, mode, &element) {
+        Ok(_) if shown.out_of_memory => Err(ASN1Error::new(ASN1ErrorKind::OutOfMemory)),
+        Ok(encoding) => Ok(Part::new(Frame::Plain, Leaf::Known(shown.text, encoding))),
+        Err(error) => Err(error),
+    }
 }

@@ -20,17 +20,13 @@ use crate::leaf::{
     Leaf, show_generalized_time, show_identifier, show_octets, show_text, show_utc_time,
 };
 use crate::names::named;
-use crate::outcome::Outcome;
-use crate::parts::{Element, Group, Part, append};
-use crate::reading::shown;
+use crate::parts::{Element, Frame, Group, Part};
+use crate::reading::{append_leaf, append_shown};
 use crate::text::Text;
-use std::alloc::{AllocError, Global};
+use std::alloc::AllocError;
 use std::fmt::Debug;
 use yasna::models::{GeneralizedTime, ObjectIdentifier, TaggedDerValue, UTCTime};
-use yasna::{
-    ASN1Error, ASN1ErrorKind, ASN1Result, BERMode, DERCanonical, decode_ber, decode_ber_general,
-    decode_cer, decode_der,
-};
+use yasna::{BERMode, DERCanonical, decode_ber, decode_ber_general, decode_cer, decode_der};
 
 type Pairs = ((i64, bool), (bool, i64));
 
@@ -110,61 +106,68 @@ static TYPES: [(&str, Type); 30] = [
 ];
 
 impl Type {
-    // What decoding it returns.
-    fn outcome(self, alloc: Global, mode: BERMode, bytes: &[u8]) -> Text {
+    // Appends what decoding it returns.
+    fn append_outcome(self, mode: BERMode, bytes: &[u8], text: &mut Text) {
         match self {
-            Type::Null => plain::<()>(alloc, mode, bytes),
-            Type::Bool => plain::<bool>(alloc, mode, bytes),
-            Type::I64 => plain::<i64>(alloc, mode, bytes),
-            Type::I32 => plain::<i32>(alloc, mode, bytes),
-            Type::I16 => plain::<i16>(alloc, mode, bytes),
-            Type::U64 => plain::<u64>(alloc, mode, bytes),
-            Type::U32 => plain::<u32>(alloc, mode, bytes),
-            Type::U16 => plain::<u16>(alloc, mode, bytes),
-            Type::Octets => decoded(alloc, mode, bytes, show_vector),
-            Type::Text => decoded(alloc, mode, bytes, show_string),
-            Type::Identifier => decoded(alloc, mode, bytes, show_identifier),
-            Type::UtcTime => decoded(alloc, mode, bytes, show_utc_time),
-            Type::GeneralizedTime => decoded(alloc, mode, bytes, show_generalized_time),
-            Type::General => general(alloc, mode, bytes),
-            Type::Raw => raw(alloc, mode, bytes),
-            Type::Raws => raws(alloc, mode, bytes),
-            _ => self.composed(alloc, mode, bytes),
+            Type::Null => plain::<()>(mode, bytes, text),
+            Type::Bool => plain::<bool>(mode, bytes, text),
+            Type::I64 => plain::<i64>(mode, bytes, text),
+            Type::I32 => plain::<i32>(mode, bytes, text),
+            Type::I16 => plain::<i16>(mode, bytes, text),
+            Type::U64 => plain::<u64>(mode, bytes, text),
+            Type::U32 => plain::<u32>(mode, bytes, text),
+            Type::U16 => plain::<u16>(mode, bytes, text),
+            Type::Octets => decoded(mode, bytes, text, show_octets),
+            Type::Text => decoded(mode, bytes, text, show_text),
+            Type::Identifier => decoded(mode, bytes, text, show_identifier),
+            Type::UtcTime => decoded(mode, bytes, text, show_utc_time),
+            Type::GeneralizedTime => decoded(mode, bytes, text, show_generalized_time),
+            Type::General => general(mode, bytes, text),
+            Type::Raw => raw(mode, bytes, text),
+            Type::Raws => raws(mode, bytes, text),
+            _ => self.append_composed(mode, bytes, text),
         }
     }
 
-    // What decoding a type that is made of others returns.
-    fn composed(self, alloc: Global, mode: BERMode, bytes: &[u8]) -> Text {
+    // Appends what decoding a type that is made of others returns.
+    fn append_composed(self, mode: BERMode, bytes: &[u8], text: &mut Text) {
         match self {
-            Type::Pair => plain::<(i64, bool)>(alloc, mode, bytes),
-            Type::Pairs => plain::<Pairs>(alloc, mode, bytes),
-            Type::Deep => plain::<Deep>(alloc, mode, bytes),
-            Type::Numbers => plain::<Vec<i64>>(alloc, mode, bytes),
-            Type::Lists => plain::<Vec<Vec<i64>>>(alloc, mode, bytes),
-            Type::PairList => plain::<Vec<(i64, bool)>>(alloc, mode, bytes),
-            Type::Nested => plain::<Nested>(alloc, mode, bytes),
-            Type::OctetsList => decoded(alloc, mode, bytes, show_vectors),
-            Type::TextList => decoded(alloc, mode, bytes, show_strings),
-            Type::Named => decoded(alloc, mode, bytes, show_named),
-            Type::Mixed => decoded(alloc, mode, bytes, show_mixed),
-            Type::One => plain::<(i64,)>(alloc, mode, bytes),
-            Type::Three => plain::<(i64, i64, i64)>(alloc, mode, bytes),
-            _ => plain::<Twelve>(alloc, mode, bytes),
+            Type::Pair => plain::<(i64, bool)>(mode, bytes, text),
+            Type::Pairs => plain::<Pairs>(mode, bytes, text),
+            Type::Deep => plain::<Deep>(mode, bytes, text),
+            Type::Numbers => plain::<Vec<i64>>(mode, bytes, text),
+            Type::Lists => plain::<Vec<Vec<i64>>>(mode, bytes, text),
+            Type::PairList => plain::<Vec<(i64, bool)>>(mode, bytes, text),
+            Type::Nested => plain::<Nested>(mode, bytes, text),
+            Type::OctetsList => decoded(mode, bytes, text, show_vectors),
+            Type::TextList => decoded(mode, bytes, text, show_strings),
+            Type::Named => decoded(mode, bytes, text, show_named),
+            Type::Mixed => decoded(mode, bytes, text, show_mixed),
+            Type::One => plain::<(i64,)>(mode, bytes, text),
+            Type::Three => plain::<(i64, i64, i64)>(mode, bytes, text),
+            _ => plain::<Twelve>(mode, bytes, text),
         }
     }
 }
 
-/// What decoding the type of this name returns on these bytes.
-pub fn outcome(alloc: Global, mode: BERMode, call: &str, bytes: &[u8]) -> Outcome {
-    Some(named(&TYPES, call)?.outcome(alloc, mode, bytes))
+/// Appends what decoding the type of this name returns on these bytes, and says whether there is one.
+pub fn append_outcome(mode: BERMode, call: &str, bytes: &[u8], text: &mut Text) -> bool {
+    match named(&TYPES, call) {
+        Some(kind) => {
+            kind.append_outcome(mode, bytes, text);
+            true
+        }
+        None => false,
+    }
 }
 
-// What decoding returns, and encoding after it.
-fn decoded<T: DERCanonical, F>(alloc: Global, mode: BERMode, bytes: &[u8], show: F) -> Text
+// Appends what decoding returns, and encoding after it.
+fn decoded<T: DERCanonical, F>(mode: BERMode, bytes: &[u8], text: &mut Text, show: F)
 where
     F: FnOnce(&T, &mut Text),
     requires { F.IsAlwaysCallable show }
 {
+    let alloc = text.allocator();
     let read = match mode {
         BERMode::Ber => decode_ber(alloc, bytes),
         BERMode::Der => decode_der(alloc, bytes),
@@ -172,27 +175,17 @@ where
     };
     match read {
         Ok(value) => {
-            let mut text = Text::new(alloc, "ok ");
-            show(&value, &mut text);
-            text.with_encoding(encode_in::<T>(alloc, mode, &value))
+            text.push("ok ");
+            show(&value, text);
+            text.push_encoding(encode_in::<T>(alloc, mode, &value));
         }
-        Err(error) => Text::rejected(alloc, error.kind()),
+        Err(error) => text.reject(error.kind()),
     }
 }
 
-// What decoding a value that is made of numbers and BOOLEANs alone returns.
-fn plain<T: DERCanonical + Debug>(alloc: Global, mode: BERMode, bytes: &[u8]) -> Text {
-    decoded::<T, _>(alloc, mode, bytes, Text::push_plain)
-}
-
-// Shows octets.
-fn show_vector(octets: &Vec<u8>, text: &mut Text) {
-    show_octets(octets, text);
-}
-
-// Shows a text.
-fn show_string(characters: &String, text: &mut Text) {
-    show_text(characters, text);
+// Appends what decoding a value that is made of numbers and BOOLEANs alone returns.
+fn plain<T: DERCanonical + Debug>(mode: BERMode, bytes: &[u8], text: &mut Text) {
+    decoded::<T, _>(mode, bytes, text, Text::push_plain);
 }
 
 // Shows a list of octets.
@@ -240,38 +233,38 @@ fn show_mixed(value: &(u16, (), Vec<u8>), text: &mut Text) {
     text.push(")");
 }
 
-// What decoding a number in this mode returns, and its own write after it.
-fn general(alloc: Global, mode: BERMode, bytes: &[u8]) -> Text {
-    match decode_ber_general(alloc, bytes, mode) {
-        Ok(number) => shown(alloc, mode, &Element::value(Leaf::I64(number))),
-        Err(error) => Text::rejected(alloc, error.kind()),
+// Appends what decoding a number in this mode returns, and its own write after it.
+fn general(mode: BERMode, bytes: &[u8], text: &mut Text) {
+    match decode_ber_general(text.allocator(), bytes, mode) {
+        Ok(number) => append_leaf(mode, Leaf::I64(number), text),
+        Err(error) => text.reject(error.kind()),
     }
 }
 
-// What decoding a raw element returns, and its own write after it.
-fn raw(alloc: Global, mode: BERMode, bytes: &[u8]) -> Text {
-    match decode_ber_general(alloc, bytes, mode) {
-        Ok(value) => shown(alloc, mode, &Element::value(Leaf::Tagged(value))),
-        Err(error) => Text::rejected(alloc, error.kind()),
+// Appends what decoding a raw element returns, and its own write after it.
+fn raw(mode: BERMode, bytes: &[u8], text: &mut Text) {
+    match decode_ber_general(text.allocator(), bytes, mode) {
+        Ok(value) => append_leaf(mode, Leaf::Tagged(value), text),
+        Err(error) => text.reject(error.kind()),
     }
 }
 
-// What decoding a list of raw elements returns, and its own write after it.
-fn raws(alloc: Global, mode: BERMode, bytes: &[u8]) -> Text {
-    match decode_ber_general(alloc, bytes, mode) {
-        Ok(values) => match list(alloc, values) {
-            Ok(element) => shown(alloc, mode, &element),
-            Err(_) => Text::when_out_of_memory(alloc),
+// Appends what decoding a list of raw elements returns, and its own write after it.
+fn raws(mode: BERMode, bytes: &[u8], text: &mut Text) {
+    match decode_ber_general(text.allocator(), bytes, mode) {
+        Ok(values) => match list(values) {
+            Ok(element) => append_shown(mode, &element, text),
+            Err(_) => text.out_of_memory = true,
         },
-        Err(error) => Text::rejected(alloc, error.kind()),
+        Err(error) => text.reject(error.kind()),
     }
 }
 
 // A list of raw elements.
-fn list(alloc: Global, values: Vec<TaggedDerValue>) -> Result<Element, AllocError> {
-    let mut parts = Vec::new(alloc);
+fn list(values: Vec<TaggedDerValue>) -> Result<Element, AllocError> {
+    let mut parts = Vec::new(*values.allocator());
     for value in values {
-        append(&mut parts, Part::plain(Leaf::Tagged(value)))?;
+        parts.push(Part::new(Frame::Plain, Leaf::Tagged(value)))?;
     }
-    Ok(Element::group(Group::SequenceOf, parts))
+    Ok(Element::new(Group::SequenceOf, parts))
 }

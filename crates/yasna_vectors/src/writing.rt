@@ -20,58 +20,56 @@
 //!
 //! `ws` and `tws` write parts of a sequence with no header around them. `length` tells further names.
 
+use crate::kind::parsed;
 use crate::leaf::Leaf;
 use crate::length;
+use crate::names::named;
 use crate::nest::Nested;
-use crate::outcome::Outcome;
-use crate::parts::{Element, Group, Part, write_parts};
+use crate::parts::{Element, Group, write_parts};
 use crate::reading::encoding_of;
 use crate::reads::{Read, raw_parts};
 use crate::rejection::OwnError;
 use crate::text::Text;
-use std::alloc::{AllocError, Global};
+use std::alloc::Global;
 use yasna::{
     ASN1Error, ASN1ErrorKind, ASN1Result, BERMode, construct_der_seq, try_construct_der,
     try_construct_der_seq,
 };
 
-/// What a call of this family returns.
-pub fn outcome(alloc: Global, call: &str, arg: &str) -> Outcome {
-    let (around, name) = call.split_once(':')?;
+/// Appends what a call of this family returns, and says whether there are such a call and argument.
+pub fn append_outcome(call: &str, arg: &str, text: &mut Text) -> bool {
+    let Some((around, name)) = call.split_once(':') else {
+        return false;
+    };
+    let Some(element) = element(name, arg, text) else {
+        return false;
+    };
     if let "seqbigint" | "seqlen" | "seqseqlen" = name {
-        return Some(length::outcome(alloc, name, arg.parse().ok()?));
+        length::append_written(name, &element, text);
+        return true;
     }
-    match element(alloc, name, arg)? {
-        Ok(element) => shown(alloc, around, &element),
-        Err(_) => Some(Text::when_out_of_memory(alloc)),
-    }
-}
-
-// The answer with an element and what this call writes of it.
-fn shown(alloc: Global, around: &str, element: &Element) -> Outcome {
-    let encoding = encoding_in(alloc, around, element)?;
-    let mut text = Text::new(alloc, "ok ");
-    element.show(&mut text);
-    Some(text.with_encoding(encoding))
+    let Some(encoding) = encoding_in(text.allocator(), around, &element) else {
+        return false;
+    };
+    text.push("ok ");
+    element.show(text);
+    text.push_encoding(encoding);
+    true
 }
 
 // What is written of an element by this call around the writing.
 fn encoding_in(alloc: Global, around: &str, element: &Element) -> Option<ASN1Result<Vec<u8>>> {
-    Some(match around {
-        "w" => encoding_of(alloc, BERMode::Der, element),
-        "tw" => tried(try_construct_der(alloc, |writer| Ok(element.write(writer)?))),
-        "ws" => {
-            let parts = element.parts()?;
-            construct_der_seq(alloc, |seq| write_parts(seq, parts))
-        }
-        _ => {
-            let parts = element.parts()?;
-            tried(try_construct_der_seq(alloc, |seq| Ok(write_parts(seq, parts)?)))
-        }
-    })
+    let parts = element.parts.as_slice();
+    match (around, element.group) {
+        ("w", _) => Some(encoding_of(alloc, BERMode::Der, element)),
+        ("tw", _) => Some(tried(try_construct_der(alloc, |writer| { Ok(element.write(writer)?) }))),
+        (_, Group::Alone) => None,
+        ("ws", _) => Some(construct_der_seq(alloc, |seq| write_parts(seq, parts))),
+        _ => Some(tried(try_construct_der_seq(alloc, |seq| { Ok(write_parts(seq, parts)?) }))),
+    }
 }
 
-// The answer of a call with an error type of the caller's own.
+// The result of a call with an error type of the caller's own.
 fn tried(encoding: Result<Vec<u8>, OwnError>) -> ASN1Result<Vec<u8>> {
     match encoding {
         Ok(encoding) => Ok(encoding),
@@ -80,30 +78,59 @@ fn tried(encoding: Result<Vec<u8>, OwnError>) -> ASN1Result<Vec<u8>> {
     }
 }
 
-// The element of this name and argument.
-fn element(alloc: Global, name: &str, arg: &str) -> Option<Result<Element, AllocError>> {
-    let group = match name {
-        "setof" => Group::SetOf,
-        "set" => Group::Set,
-        _ => match small(name, arg) {
-            Some(part) => return Some(Ok(Element::alone(part))),
-            None => return Read::named(name)?.value(alloc, arg),
+// What a call writes.
+#[derive(Clone, Copy)]
+enum Body {
+    // raw elements
+    Raw(Group),
+    // a value that has a name here alone
+    Small,
+    // what `length` makes
+    Length,
+}
+
+// What these names write, which are none of calls that read.
+static BODIES: [(&str, Body); 9] = [
+    ("setof", Body::Raw(Group::SetOf)),
+    ("set", Body::Raw(Group::Set)),
+    ("nothing", Body::Small),
+    ("nest", Body::Small),
+    ("refused", Body::Small),
+    ("thrown", Body::Small),
+    ("seqbigint", Body::Length),
+    ("seqlen", Body::Length),
+    ("seqseqlen", Body::Length),
+];
+
+// The element of this name and argument, if there is one; without memory for it, that is noted in a result.
+fn element(name: &str, arg: &str, came: &mut Text) -> Option<Element> {
+    match named(&BODIES, name) {
+        Some(Body::Raw(group)) => raw_parts(group, arg, came),
+        Some(Body::Small) => small(name, arg, came),
+        Some(Body::Length) => length::element(name, arg, came),
+        None => match Read::named(name) {
+            Some(read) => read.value(arg, came),
+            None => None,
         },
-    };
-    match raw_parts(alloc, arg)? {
-        Ok(parts) => Some(Ok(Element::group(group, parts))),
-        Err(out_of_memory) => Some(Err(out_of_memory)),
     }
 }
 
-// The value that has a name here alone.
-fn small(name: &str, arg: &str) -> Option<Part> {
+// The value that has a name here alone; without memory for it, that is noted in a result.
+fn small(name: &str, arg: &str, came: &mut Text) -> Option<Element> {
+    let mut is_known = true;
     let leaf = match name {
-        "nothing" => return Some(Part::unwritten(Leaf::Null)),
-        "nest" => Leaf::Nested(Nested::new(arg.parse().ok()?, 10)),
-        "refused" => Leaf::Rejected(arg.parse().ok()?),
-        "thrown" => Leaf::Discarded(arg.parse().ok()?),
-        _ => return None,
+        "nothing" => Leaf::Nothing,
+        "nest" => Leaf::Nested(Nested {
+            depth: parsed(arg.parse(), &mut is_known),
+            number: 10,
+            brackets: 0,
+        }),
+        "refused" => Leaf::Rejected(parsed(arg.parse(), &mut is_known)),
+        _ => Leaf::Discarded(parsed(arg.parse(), &mut is_known)),
     };
-    Some(Part::plain(leaf))
+    if is_known {
+        Element::alone(leaf, came)
+    } else {
+        None
+    }
 }
