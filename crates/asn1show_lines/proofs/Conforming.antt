@@ -13,4 +13,4 @@ pub conforming : (mode : BERMode) (bytes : List ℕ) (old new : Report) (c : Con
     ((ls : List Line) × VisitsLines (IsReportOf old) (IsReportOf new) ls × ListsBytes max_depth mode false 0 bytes ls) → IsReportOf old [] →
     c ≡ new.conformance → IsConformanceOf mode bytes c
 conforming mode bytes old new c x knows e =
-    record { lines = x.0; lists = x.2; rules = subst (λ z. ConformsTo z (reverse x.0)) (sym e) (x.1 [] knows).rules }
+    record { lines = x.0; lists = x.2; conformance = subst (λ z. ConformsTo z (reverse x.0)) (sym e) (x.1 [] knows).conformance }

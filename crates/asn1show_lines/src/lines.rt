@@ -33,7 +33,7 @@ fn show_lines<W: Write + Drop>(
     ensures raw { OnOk result (IsJoining (IsRaw mode max_depth) bytes.now) }
     ensures some { OnOk result (1 ≤ length bytes.now) }
     ensures elements { OnOk result (AreElements max_depth mode bytes.now) }
-    ensures rules { style.entry.view.schema ≡ None → IfOk result (λ c. IsConformanceOf mode bytes.now c) }
+    ensures conformance { style.entry.view.schema ≡ None → IfOk result (λ c. IsConformanceOf mode bytes.now c) }
     ensures fails { IfErr result (λ f. WalkFails IsExternal (NoElements max_depth mode bytes.now) f) }
 {
     let mut printer = Printer::begin(out, style, Source { mode, bytes })?;
@@ -53,7 +53,7 @@ fn show_json<W: Write + Drop>(
     ensures raw { OnOk result (IsJoining (IsRaw mode max_depth) bytes.now) }
     ensures some { OnOk result (1 ≤ length bytes.now) }
     ensures elements { OnOk result (AreElements max_depth mode bytes.now) }
-    ensures rules { style.entry.view.schema ≡ None → IfOk result (λ c. IsConformanceOf mode bytes.now c) }
+    ensures conformance { style.entry.view.schema ≡ None → IfOk result (λ c. IsConformanceOf mode bytes.now c) }
     ensures fails { IfErr result (λ f. WalkFails IsExternal (NoElements max_depth mode bytes.now) f) }
 {
     let mut printer = JsonPrinter::begin(out, style)?;
@@ -75,7 +75,7 @@ fn show_html<W: Write + Drop>(
     ensures raw { OnOk result (IsJoining (IsRaw mode max_depth) bytes.now) }
     ensures some { OnOk result (1 ≤ length bytes.now) }
     ensures elements { OnOk result (AreElements max_depth mode bytes.now) }
-    ensures rules { style.entry.view.schema ≡ None → IfOk result (λ c. IsConformanceOf mode bytes.now c) }
+    ensures conformance { style.entry.view.schema ≡ None → IfOk result (λ c. IsConformanceOf mode bytes.now c) }
     ensures fails { IfErr result (λ f. WalkFails IsExternal (NoElements max_depth mode bytes.now) f) }
 {
     let mut page = HtmlPrinter::begin(out, style, Source { mode, bytes });
@@ -98,7 +98,7 @@ fn show_bytes<W: Write + Drop>(
     ensures raw { OnOk result (IsJoining (IsRaw mode max_depth) bytes.now) }
     ensures some { OnOk result (1 ≤ length bytes.now) }
     ensures elements { OnOk result (AreElements max_depth mode bytes.now) }
-    ensures rules { style.entry.view.schema ≡ None → IfOk result (λ c. IsConformanceOf mode bytes.now c) }
+    ensures conformance { style.entry.view.schema ≡ None → IfOk result (λ c. IsConformanceOf mode bytes.now c) }
     ensures fails { IfErr result (λ f. WalkFails IsExternal (NoElements max_depth mode bytes.now) f) }
 {
     match style.view.layout {

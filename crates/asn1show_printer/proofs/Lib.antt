@@ -7,7 +7,7 @@ pub mod Components
 pub mod WholeElement
 pub mod NoteSteps
 pub mod SegmentSteps
-pub mod Rules
+pub mod Modes
 pub mod Reports
 pub mod Tags
 pub mod LineSteps

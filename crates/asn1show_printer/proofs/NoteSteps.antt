@@ -6,7 +6,7 @@ use Rattle.std.proofs.lemmas.List.{at_drop_more}
 use Rattle.yasna_base.specs.declared.mode.BERMode.{BERMode}
 use Rattle.yasna_base.specs.declared.mode.BERMode.TheVariants.{Ber, Der, Cer}
 use Rattle.asn1show_printer.specs.Conformance.{conforms, IsDiagnosed}
-use Rattle.asn1show_printer.specs.Rules.{spares, spare_each}
+use Rattle.asn1show_printer.specs.Modes.{spares, spare_each}
 use Rattle.asn1show_printer.specs.declared.diagnostic.Conformance.{Conformance}
 use Rattle.asn1show_printer.specs.declared.diagnostic.Diagnostic.{Diagnostic}
 

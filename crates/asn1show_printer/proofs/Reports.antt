@@ -37,12 +37,12 @@ counts false noted left K e x = (λ t f. x.0 (sym e ∙ t), λ k. e ∙ x.1 (k r
 -- nothing is known of no elements
 pub knows_none : (r : Report) → r.style.view.schema ≡ None → r.fields ≡ None → Tracks r.segments [] → ((m : BERMode) → conforms r.conformance m ≡ true) →
     IsReportOf r []
-knows_none r s f t c = record { plain = s; fields = f; tracks = t; rules = λ m. (λ e. tt, λ x. c m) }
+knows_none r s f t c = record { plain = s; fields = f; tracks = t; conformance = λ m. (λ e. tt, λ x. c m) }
 
 -- one more element, which was labelled, described and counted
 pub knows_more : (old labelled begun described noted counted new : Report) (i : Item) (label : Label) (before : List Line) → Labels old labelled label →
     begun ≡ record labelled { line = begun.line } → Describes begun described i label → noted ≡ record described { line = noted.line } →
-    AreMet noted.conformance noted.notes.rules counted.conformance →
+    AreMet noted.conformance noted.notes.conformance counted.conformance →
     counted ≡ record noted { conformance = counted.conformance; position = counted.position } → new ≡ record counted { line = new.line } →
     IsReportOf old before → IsReportOf new (before ++ (line_of i ∷ []))
 knows_more old labelled begun described noted counted new i label before l b d n met_by c e knows =
@@ -60,10 +60,10 @@ knows_more old labelled begun described noted counted new i label before l b d n
     subst (λ s. Tracks s (line_of i ∷ reverse before)) (sym segments) (d.tracks plain any (reverse before) tracks_before) in
     let noted_conformance : noted.conformance ≡ old.conformance =
     ap (λ r. r.conformance) n ∙ d.conformance ∙ ap (λ r. r.conformance) b ∙ l.conformance in
-    let noted_rules : noted.notes.rules ≡ described.notes.rules = ap (λ r. r.notes.rules) n in
-    let rules : ConformsTo new.conformance (line_of i ∷ reverse before) = λ m.
-    both_conform (conforms old.conformance m) (conforms described.notes.rules m) (conforms new.conformance m)
-    (ap (λ z. conforms z m) (ap (λ r. r.conformance) e) ∙ met noted.conformance noted.notes.rules counted.conformance met_by m
-    ∙ ap (λ z. conforms z m && conforms noted.notes.rules m) noted_conformance ∙ ap (λ z. conforms old.conformance m && conforms z m) noted_rules)
-    (knows.rules m) (d.rules plain any (reverse before) tracks_before m) in
-    subst (Knows new) (sym (reverse-append before (line_of i ∷ []))) (record { plain = ap (λ s. s.view.schema) style ∙ knows.plain; fields = fields; tracks = tracks; rules = rules })
+    let noted_modes : noted.notes.conformance ≡ described.notes.conformance = ap (λ r. r.notes.conformance) n in
+    let conforming : ConformsTo new.conformance (line_of i ∷ reverse before) = λ m.
+    both_conform (conforms old.conformance m) (conforms described.notes.conformance m) (conforms new.conformance m)
+    (ap (λ z. conforms z m) (ap (λ r. r.conformance) e) ∙ met noted.conformance noted.notes.conformance counted.conformance met_by m
+    ∙ ap (λ z. conforms z m && conforms noted.notes.conformance m) noted_conformance ∙ ap (λ z. conforms old.conformance m && conforms z m) noted_modes)
+    (knows.conformance m) (d.modes plain any (reverse before) tracks_before m) in
+    subst (Knows new) (sym (reverse-append before (line_of i ∷ []))) (record { plain = ap (λ s. s.view.schema) style ∙ knows.plain; fields = fields; tracks = tracks; conformance = conforming })

@@ -91,12 +91,12 @@ module _ {X : Type 0} where
   pub fewer_where_equal : {R : X → X → Ordering} (o : IsTotalOrder R) {E : X → X → Bool} (ties : (x y : X) → E x y ≡ eq_by_cmp R x y)
       (same : (x y : X) → Decides (E x y) (x ≡ y)) (xs ys zs : List X) → IsPermutation xs ys → length ys ≡ length xs → IsSorted R ys →
       IsFiltered (DiffersFromLast E) [] ys zs → (said : Bool) → IsTrue said ↔ (length zs < length xs) → IsTrue said ↔ (AllPairs (λ x y. x ≢ y) xs → ⊥)
-  fewer_where_equal {R = R} o {E = E} ties same xs ys zs moved size sorted filtered said x =
+  fewer_where_equal {R = R} o {E = E} ties same xs ys zs shifted size sorted filtered said x =
       let e : zs ≡ dedup E ys = dedup_is E ys zs filtered in
       let flips : (a b : X) → E a b ≡ E b a =
       λ a b. same_answers (E a b) (E b a) (λ t. (same b a).1 (sym ((same a b).0 t))) (λ t. (same a b).1 (sym ((same b a).0 t))) in (
         λ t all.
-            let all_differ = IsDistinct-IsPermutation E flips xs ys moved (IsDistinct-from_AllPairs same xs all) in
+            let all_differ = IsDistinct-IsPermutation E flips xs ys shifted (IsDistinct-from_AllPairs same xs all) in
             let as_many : length zs ≡ length ys = ap length (e ∙ all_whole E flips ys all_differ) in
             let fewer = x.0 t in
             omega (arith, as_many, size, fewer),
@@ -112,7 +112,7 @@ module _ {X : Type 0} where
           let strict : IsStrictlySortedBy R ys = subst (IsStrictlySortedBy R) whole (IsStrictlySortedBy-dedup o ties ys sorted) in
           let tests : E ≡ eq_by_cmp R = λ i a b. ties a b i in
           let differ : IsDistinct E ys = subst (λ z. IsDistinct z ys) (sym tests) (IsDistinct-from_sorted R ys strict) in
-          let back = IsDistinct-IsPermutation E flips_back ys xs (IsPermutation-sym xs ys moved) differ in
+          let back = IsDistinct-IsPermutation E flips_back ys xs (IsPermutation-sym xs ys shifted) differ in
           absurd (none (AllPairs-from_IsDistinct same xs back))
         where
           flips_back : (a b : X) → E a b ≡ E b a
@@ -167,7 +167,7 @@ tag_decides t u = (tag_same t u, λ e. ap (λ z. eq_by_cmp tag_cmp t z) (sym e) 
 pub fewer_where_tags : {R : Tag → Tag → Ordering} {E : Tag → Tag → Bool} → ((t u : Tag) → R t u ≡ tag_cmp t u) → ((t u : Tag) → Decides (E t u) (t ≡ u)) →
     (xs ys zs : List Tag) → IsPermutation xs ys → length ys ≡ length xs → IsSorted R ys → IsFiltered (DiffersFromLast E) [] ys zs → (said : Bool) →
     IsTrue said ↔ (length zs < length xs) → IsTrue said ↔ (AllPairs (λ t u. t ≢ u) xs → ⊥)
-fewer_where_tags {R = R} {E = E} orders same xs ys zs moved size sorted filtered said x =
+fewer_where_tags {R = R} {E = E} orders same xs ys zs shifted size sorted filtered said x =
     let order : R ≡ tag_cmp = λ i t u. orders t u i in
     let ties : (t u : Tag) → E t u ≡ eq_by_cmp tag_cmp t u = λ t u. one_answer (E t u) (eq_by_cmp tag_cmp t u) (same t u) (tag_decides t u) in
-    fewer_where_equal tag_total ties same xs ys zs moved size (subst (λ r. IsSorted r ys) order sorted) filtered said x
+    fewer_where_equal tag_total ties same xs ys zs shifted size (subst (λ r. IsSorted r ys) order sorted) filtered said x

@@ -7,6 +7,6 @@ pub mod Dump
 pub mod Headers
 pub mod Pieces
 pub mod Segments
-pub mod Rules
+pub mod Modes
 pub mod Reports
 pub mod Lines

@@ -8,7 +8,7 @@ use Rattle.asn1show_walk.specs.Listing.{Line, ListsBytes}
 use Rattle.asn1show_walk.specs.Reading.{line_of}
 use Rattle.asn1show_walk.specs.declared.listing.item.Item.{Item}
 use Rattle.asn1show_printer.specs.Conformance.{conforms}
-use Rattle.asn1show_printer.specs.Rules.{CountsFor, KeepsEach}
+use Rattle.asn1show_printer.specs.Modes.{CountsFor, KeepsEach}
 use Rattle.asn1show_printer.specs.Segments.{Tracks}
 use Rattle.asn1show_printer.specs.declared.diagnostic.Conformance.{Conformance}
 use Rattle.asn1show_printer.specs.declared.report.Report.{Report}
@@ -22,7 +22,7 @@ pub record Knows (r : Report) (before : List Line) : Type 0 where
   pub plain : r.style.view.schema ≡ None
   pub fields : r.fields ≡ None
   pub tracks : Tracks r.segments before
-  pub rules : ConformsTo r.conformance before
+  pub conformance : ConformsTo r.conformance before
 
 -- a report without a module is of the elements of these lines
 abbrev pub IsReportOf : Report → List Line → Type 0
@@ -32,7 +32,7 @@ IsReportOf r lines = Knows r (reverse lines)
 pub record IsConformanceOf (mode : BERMode) (bytes : List ℕ) (c : Conformance) : Type 0 where
   pub lines : List Line
   pub lists : ListsBytes max_depth mode false 0 bytes lines
-  pub rules : ConformsTo c (reverse lines)
+  pub conformance : ConformsTo c (reverse lines)
 
 -- the report after an element has its label
 pub record Labels (old new : Report) (label : Label) : Type 0 where
@@ -48,5 +48,5 @@ pub record Describes (old new : Report) (i : Item) (label : Label) : Type 0 wher
   pub conformance : new.conformance ≡ old.conformance
   pub fields : new.fields ≡ old.fields
   pub tracks : old.style.view.schema ≡ None → label.contents ≡ Any → (before : List Line) → Tracks old.segments before → Tracks new.segments (line_of i ∷ before)
-  pub rules : old.style.view.schema ≡ None → label.contents ≡ Any → (before : List Line) → Tracks old.segments before →
-      (m : BERMode) → IsTrue (conforms new.notes.rules m) ↔ CountsFor m before (line_of i)
+  pub modes : old.style.view.schema ≡ None → label.contents ≡ Any → (before : List Line) → Tracks old.segments before →
+      (m : BERMode) → IsTrue (conforms new.notes.conformance m) ↔ CountsFor m before (line_of i)

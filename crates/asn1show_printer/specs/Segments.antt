@@ -83,12 +83,12 @@ pub record Tracks (s : Segments) (before : List Line) : Type 0 where
   pub around : (depth : ℕ) → depth < 256 → get_or s.around depth Absent ≡ segments_at depth before
   pub unused : IsTrue s.has_unused_bits ↔ FollowsUnusedBits before
 
--- what is told of an element as a segment
-pub record TellsPlace (before : List Line) (l : Line) (place : SegmentPlace) : Type 0 where
+-- what is pinned of an element as a segment
+pub record PinsPlace (before : List Line) (l : Line) (place : SegmentPlace) : Type 0 where
   pub expected : IsTrue place.is_expected ↔ HasWantedTag before l
   pub follows : IsTrue place.may_follow ↔ MayBeNext before l
 
 -- after an element, it and those before it are known
 pub record Enters (old new : Segments) (l : Line) (place : SegmentPlace) (before : List Line) : Type 0 where
-  pub tells : TellsPlace before l place
+  pub pins : PinsPlace before l place
   pub tracks : Tracks new (l ∷ before)

@@ -5,8 +5,8 @@ ghost use Rattle.asn1show_walk.specs.Errors.{IsExternal};
 ghost use Rattle.asn1show_walk.specs.Listing.{Line};
 ghost use Rattle.asn1show_walk.specs.Reading.{line_of};
 ghost use Rattle.asn1show_printer.specs.Contents.{DiagnosesOf};
-ghost use Rattle.asn1show_printer.specs.Rules.{HasForm, HasItsBit, HasOrder, HasShortLength, IsCut, Keeps, Tells, spare_each};
-ghost use Rattle.asn1show_printer.specs.Segments.{TellsPlace};
+ghost use Rattle.asn1show_printer.specs.Modes.{HasBody, HasItsBit, HasOrder, HasShortLength, IsCut, Keeps, Pins, spare_each};
+ghost use Rattle.asn1show_printer.specs.Segments.{PinsPlace};
 ghost use Rattle.asn1show_printer.specs.Types.{is_string, type_with};
 
 use crate::asn_type::AsnType;
@@ -27,7 +27,7 @@ fn write_primitive(
     item: &Item<'_>,
     kind: AsnType,
 ) -> Result<Option<Diagnostic>, WalkError>
-    ensures told { IfOk result (λ said. DiagnosesOf kind item.now.contents.now said) }
+    ensures pinned { IfOk result (λ said. DiagnosesOf kind item.now.contents.now said) }
     ensures external { IfErr result IsExternal }
 {
     if kind.is_unknown() && is_shown_as_text(item.tag.tag_class, item.contents) {
@@ -42,13 +42,13 @@ fn write_primitive(
 }
 
 /// Writes the value of a primitive element, and reports what is wrong with it, or with the length of a constructed one. `Err` says that memory ran out.
-pub fn write_form(
+pub fn write_body(
     line: &mut LineBuffer,
     style: Style<'_>,
     item: &Item<'_>,
     kind: AsnType,
 ) -> Result<Option<Diagnostic>, WalkError>
-    ensures told { IfOk result (λ said. Tells (λ m. HasForm m item.now.bit item.now.size kind item.now.contents.now) said) }
+    ensures pinned { IfOk result (λ said. Pins (λ m. HasBody m item.now.bit item.now.size kind item.now.contents.now) said) }
     ensures external { IfErr result IsExternal }
 {
     match item.bit {
@@ -59,7 +59,7 @@ pub fn write_form(
 
 // What is wrong with the bit of an element of this type.
 fn bit_diagnostic(bit: PCBit, kind: AsnType) -> Option<Diagnostic>
-    ensures { Tells (HasItsBit bit kind) result }
+    ensures { Pins (HasItsBit bit kind) result }
 {
     match bit {
         PCBit::Primitive => None,
@@ -73,7 +73,7 @@ pub fn order_diagnostic(
     item: &Item<'_>,
     kind: AsnType,
 ) -> Result<Option<Diagnostic>, AllocError>
-    ensures { IfOk result (λ said. Tells (HasOrder item.now.bit kind item.now.contents.now) said) }
+    ensures { IfOk result (λ said. Pins (HasOrder item.now.bit kind item.now.contents.now) said) }
 {
     match item.bit {
         PCBit::Primitive => Ok(None),
@@ -88,34 +88,34 @@ pub fn order_diagnostic(
 
 // What is wrong with the length of an element.
 fn length_diagnostic(item: &Item<'_>) -> Option<Diagnostic>
-    ensures { Tells (HasShortLength item.now.tag item.now.bit item.now.header item.now.size) result }
+    ensures { Pins (HasShortLength item.now.tag item.now.bit item.now.header item.now.size) result }
 {
     unless(!is_long(item), Diagnostic::LongLength)
 }
 
 // What is wrong with an element of this type for CER alone.
 fn cut_diagnostic(item: &Item<'_>, kind: AsnType) -> Option<Diagnostic>
-    ensures { Tells (IsCut item.now.bit item.now.size (is_string kind) item.now.contents.now) result }
+    ensures { Pins (IsCut item.now.bit item.now.size (is_string kind) item.now.contents.now) result }
 {
     cer_diagnostic(item, kind.is_string())
 }
 
-/// All that is wrong with an element of this type by X.690, with what was found of its form, its order and its place.
+/// All that is wrong with an element of this type by X.690, with what was found of its body, its order and its place.
 pub fn defects_of(
     item: &Item<'_>,
     kind: AsnType,
-    form: Option<Diagnostic>,
+    body: Option<Diagnostic>,
     order: Option<Diagnostic>,
     place: SegmentPlace,
 ) -> [Option<Diagnostic>; 7]
     ensures { kind ≡ type_with item.now.tag →
-        Tells (λ m. HasForm m item.now.bit item.now.size kind item.now.contents.now) form →
-        Tells (HasOrder item.now.bit kind item.now.contents.now) order →
-        (before : List Line) → TellsPlace before (line_of item.now) place →
+        Pins (λ m. HasBody m item.now.bit item.now.size kind item.now.contents.now) body →
+        Pins (HasOrder item.now.bit kind item.now.contents.now) order →
+        (before : List Line) → PinsPlace before (line_of item.now) place →
         (m : BERMode) → IsTrue (spare_each result m) ↔ Keeps m before (line_of item.now) }
 {
     [
-        form,
+        body,
         bit_diagnostic(item.bit, kind),
         order,
         length_diagnostic(item),

@@ -5,7 +5,7 @@ ghost use Rattle.yasna_base.specs.Identifier.{identifier};
 ghost use Rattle.yasna_base.specs.declared.tag.PCBit.{PCBit};
 ghost use Rattle.yasna_base.specs.Length.{shortest_length};
 ghost use Rattle.asn1show_printer.specs.Headers.{SaysOfLength};
-ghost use Rattle.asn1show_printer.specs.Rules.{IsShort};
+ghost use Rattle.asn1show_printer.specs.Modes.{IsShort};
 
 use asn1show_walk::Item;
 use yasna_base::tag::Tag;

@@ -3,7 +3,7 @@ ghost use Rattle.std.specs.Prelude.{◌≡◌, ◌&&◌, ◌||◌, true, IfErr, 
 ghost use Rattle.yasna_base.specs.declared.mode.BERMode.{BERMode};
 ghost use Rattle.asn1show_walk.specs.Errors.{IsExternal};
 ghost use Rattle.asn1show_printer.specs.Conformance.{conforms, IsDiagnosed};
-ghost use Rattle.asn1show_printer.specs.Rules.{spare_each};
+ghost use Rattle.asn1show_printer.specs.Modes.{spare_each};
 
 use crate::diagnostic::{Conformance, Diagnostic};
 use crate::selection::Selection;
@@ -14,7 +14,7 @@ use std::alloc::{AllocError, Global};
 #[derive(Drop)]
 pub struct Notes {
     shown: Vec<Diagnostic>,
-    rules: Conformance,
+    conformance: Conformance,
 }
 
 impl Notes {
@@ -22,16 +22,16 @@ impl Notes {
     pub fn new(alloc: Global) -> Notes {
         Notes {
             shown: Vec::new(alloc),
-            rules: Conformance::new(),
+            conformance: Conformance::new(),
         }
     }
 
     /// Forgets what is noted.
     pub fn clear(&mut self)
-        ensures { (m : BERMode) → conforms self.new.rules m ≡ true }
+        ensures { (m : BERMode) → conforms self.new.conformance m ≡ true }
     {
         self.shown.clear();
-        self.rules = Conformance::new();
+        self.conformance = Conformance::new();
     }
 
     /// The diagnostics that are shown.
@@ -42,10 +42,10 @@ impl Notes {
     }
 
     /// The encoding rules that the element conforms to.
-    pub fn rules(&self) -> Conformance
-        ensures { result ≡ self.now.rules }
+    pub fn conformance(&self) -> Conformance
+        ensures { result ≡ self.now.conformance }
     {
-        self.rules
+        self.conformance
     }
 
     // Notes a diagnostic of an element, which may be in a string, if there is one.
@@ -55,12 +55,12 @@ impl Notes {
         in_string: bool,
         said: Option<Diagnostic>,
     ) -> Result<(), AllocError>
-        ensures { IsDiagnosed self.old.rules said self.new.rules }
+        ensures { IsDiagnosed self.old.conformance said self.new.conformance }
     {
         let Some(diagnostic) = said else {
             return Ok(());
         };
-        self.rules.note(diagnostic);
+        self.conformance.note(diagnostic);
         if !selection.shows(in_string, diagnostic) {
             return Ok(());
         }
@@ -77,7 +77,7 @@ impl Notes {
         in_string: bool,
         said: &[Option<Diagnostic>],
     ) -> Result<(), WalkError>
-        ensures rules { OnOk result ((m : BERMode) → conforms self.new.rules m ≡ (conforms self.old.rules m && spare_each said.now m)) }
+        ensures conformance { OnOk result ((m : BERMode) → conforms self.new.conformance m ≡ (conforms self.old.conformance m && spare_each said.now m)) }
         ensures external { IfErr result IsExternal }
     {
         for one in said {
@@ -91,10 +91,10 @@ impl Notes {
 
     /// Ends the notes of an element. What is in a string doesn't bear on the encoding rules of the whole.
     pub fn end(&mut self, in_string: bool)
-        ensures { (m : BERMode) → conforms self.new.rules m ≡ (in_string || conforms self.old.rules m) }
+        ensures { (m : BERMode) → conforms self.new.conformance m ≡ (in_string || conforms self.old.conformance m) }
     {
         if in_string {
-            self.rules = Conformance::new();
+            self.conformance = Conformance::new();
         }
     }
 }

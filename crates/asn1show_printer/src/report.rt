@@ -4,11 +4,11 @@ ghost use Rattle.yasna_base.specs.declared.mode.BERMode.{BERMode};
 ghost use Rattle.asn1show_printer.specs.Conformance.{conforms, AreMet};
 ghost use Rattle.asn1show_printer.specs.Lines.{Appends, modes_text};
 ghost use Rattle.asn1show_printer.specs.Reports.{IsReportOf, Labels, Describes};
-ghost use Rattle.asn1show_printer.specs.Rules.{spare_each};
+ghost use Rattle.asn1show_printer.specs.Modes.{spare_each};
 ghost use Rattle.asn1show_printer.specs.Selection.{is_before, keeps, position_after, start_of};
 ghost use Rattle.asn1show_walk.specs.Errors.{IsExternal};
 
-use crate::defects::{defects_of, order_diagnostic, write_form};
+use crate::defects::{defects_of, order_diagnostic, write_body};
 use crate::diagnostic::{Conformance, Diagnostic, unless};
 use crate::line::LineBuffer;
 use crate::module_parts::{
@@ -84,8 +84,8 @@ impl<'n> Report<'n> {
     {
         let kind = labelled_type(item, label);
         let place = self.segments.enter(item, kind);
-        let form = match write_form(&mut self.line, self.style, item, kind) {
-            Ok(form) => form,
+        let body = match write_body(&mut self.line, self.style, item, kind) {
+            Ok(body) => body,
             Err(error) => return Err(error),
         };
         self.value_end = self.line.len();
@@ -93,7 +93,7 @@ impl<'n> Report<'n> {
             Ok(order) => order,
             Err(_) => return Err(WalkError::Memory),
         };
-        let defects = defects_of(item, kind, form, order, place);
+        let defects = defects_of(item, kind, body, order, place);
         self.notes.clear();
         match note_all(
             &mut self.notes,
@@ -146,7 +146,9 @@ impl<'n> Report<'n> {
     }
 
     /// Whether the element is a segment of a string.
-    pub fn is_segment(&self) -> bool {
+    pub fn is_segment(&self) -> bool
+        ensures { result ≡ self.now.segments.is_segment }
+    {
         self.segments.is_segment()
     }
 
@@ -184,17 +186,17 @@ impl<'n> Report<'n> {
         ensures text { Appends self.old.line (codes "rules: " ++ modes_text self.old.conformance) self.new.line }
         ensures same { self.new ≡ record self.old { line = self.new.line } }
     {
-        write_rules(&mut self.line, self.conformance)
+        write_modes(&mut self.line, self.conformance)
     }
 
     /// Counts an element that was described for the conformance of the whole, and returns whether it is shown.
     pub fn count(&mut self, item: &Item<'_>) -> bool
-        ensures met { AreMet self.old.conformance self.old.notes.rules self.new.conformance }
+        ensures met { AreMet self.old.conformance self.old.notes.conformance self.new.conformance }
         ensures position { self.new.position ≡ position_after (start_of self.old.style.view.selection) self.old.position item.now.offset item.now.depth }
-        ensures shown { result ≡ keeps self.old.style.view.selection self.new.position item.now.depth self.old.notes.rules }
+        ensures shown { result ≡ keeps self.old.style.view.selection self.new.position item.now.depth self.old.notes.conformance }
         ensures same { self.new ≡ record self.old { conformance = self.new.conformance; position = self.new.position } }
     {
-        let element = self.notes.rules();
+        let element = self.notes.conformance();
         self.conformance.meet(element);
         let selection = self.style.view.selection;
         self.position = selection.position_after(self.position, item.offset, item.depth);
@@ -222,7 +224,7 @@ fn fields_of<'n>(style: Style<'n>) -> Option<Fields<'n>>
 }
 
 // Writes the encoding rules that elements conform to.
-fn write_rules(line: &mut LineBuffer, conformance: Conformance)
+fn write_modes(line: &mut LineBuffer, conformance: Conformance)
     ensures { Appends line.old (codes "rules: " ++ modes_text conformance) line.new }
 {
     line.write_str("rules: ");
@@ -278,7 +280,7 @@ fn note_all(
     label: Label<'_>,
     defects: &[Option<Diagnostic>],
 ) -> Result<(), WalkError>
-    ensures rules { OnOk result (style.entry.view.schema ≡ None → (m : BERMode) → conforms notes.new.rules m ≡ (conforms notes.old.rules m && spare_each defects.now m)) }
+    ensures conformance { OnOk result (style.entry.view.schema ≡ None → (m : BERMode) → conforms notes.new.conformance m ≡ (conforms notes.old.conformance m && spare_each defects.now m)) }
     ensures external { IfErr result IsExternal }
 {
     let selection = style.view.selection;

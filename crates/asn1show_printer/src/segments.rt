@@ -126,7 +126,9 @@ impl Segments {
     }
 
     /// Whether the last element is a segment.
-    pub fn is_segment(&self) -> bool {
+    pub fn is_segment(&self) -> bool
+        ensures { result ≡ self.now.is_segment }
+    {
         self.is_segment
     }
 

@@ -1,4 +1,4 @@
-use Rattle.asn1show_printer.proofs.Rules.{bit_primitive, bit_constructed}
+use Rattle.asn1show_printer.proofs.Modes.{bit_primitive, bit_constructed}
 use Rattle.asn1show_printer.proofs.defects.bit_diagnostic.Goals as goal
 
 pub returns-in-Primitive : goal.returns-in-Primitive

@@ -1,6 +1,6 @@
 use Rattle.std.proofs.Common.{sym, ◌∙◌}
 use Rattle.std.proofs.lemmas.Result.{IfOk-weaker}
-use Rattle.asn1show_printer.proofs.Rules.{order_primitive, order_in_set}
+use Rattle.asn1show_printer.proofs.Modes.{order_primitive, order_in_set}
 use Rattle.asn1show_printer.proofs.defects.order_diagnostic.Goals as goal
 
 pub returns-in-Primitive : goal.returns-in-Primitive

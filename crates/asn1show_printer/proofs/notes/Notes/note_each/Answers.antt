@@ -8,10 +8,10 @@ loop-one-init c = λ m. refl
 
 pub loop-one-preserved : goal.loop-one-preserved
 loop-one-preserved c = λ m.
-    note_more c.args.self.now.rules c.loop-one.self.rules c.note.new.self.rules c.args.said.now c.loop-one.one-index _ (search rules) refl c.note.ensures _ m
+    note_more c.args.self.now.conformance c.loop-one.self.conformance c.note.new.self.conformance c.args.said.now c.loop-one.one-index _ (search rules) refl c.note.ensures _ m
     (c.loop-one.invariant m)
 
-pub returns-clause-rules : goal.returns-clause-rules
-returns-clause-rules c = λ m.
-    note_end c.loop-one.self.rules (drop c.loop-one.one-index c.args.said.now) _ m (at_drop_all (λ z. z) c.args.said.now c.loop-one.one-index c.loop-one-test.false)
+pub returns-clause-conformance : goal.returns-clause-conformance
+returns-clause-conformance c = λ m.
+    note_end c.loop-one.self.conformance (drop c.loop-one.one-index c.args.said.now) _ m (at_drop_all (λ z. z) c.args.said.now c.loop-one.one-index c.loop-one-test.false)
     (c.loop-one.invariant m)

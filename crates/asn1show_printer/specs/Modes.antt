@@ -21,9 +21,9 @@ use Rattle.asn1show_printer.specs.declared.asn_type.AsnType.TheVariants.{Boolean
 use Rattle.asn1show_printer.specs.declared.diagnostic.Diagnostic.{Diagnostic}
 
 -- contents of a primitive element are those of its type, and DER has constructed elements of definite length (8 to 11, 10.1)
-abbrev pub HasForm : BERMode → PCBit → Option ℕ → AsnType → List ℕ → Type 0
-HasForm m Primitive size kind c = AreOfKind kind m c
-HasForm m Constructed size kind c = m ≡ Der → IsSome size
+abbrev pub HasBody : BERMode → PCBit → Option ℕ → AsnType → List ℕ → Type 0
+HasBody m Primitive size kind c = AreOfKind kind m c
+HasBody m Constructed size kind c = m ≡ Der → IsSome size
 
 -- an element of a type may be constructed: of strings but in DER, and of simple types never (8 and 10.2)
 abbrev pub MayHaveParts : AsnType → BERMode → Type 0
@@ -77,7 +77,7 @@ IsCut bit size string c m = m ≡ Cer → IsCutByCer bit size string c
 
 -- an element keeps the rules of a mode, by itself and after those before it
 pub record Keeps (m : BERMode) (before : List Line) (l : Line) : Type 0 where
-  pub form : HasForm m l.bit l.size (type_with l.tag) l.contents
+  pub body : HasBody m l.bit l.size (type_with l.tag) l.contents
   pub bit : HasItsBit l.bit (type_with l.tag) m
   pub order : HasOrder l.bit (type_with l.tag) l.contents m
   pub short : HasShortLength l.tag l.bit l.header l.size m
@@ -104,5 +104,5 @@ spare_each [] m = true
 spare_each (d ∷ ds) m = spares d m && spare_each ds m
 
 -- a diagnostic excludes exactly the modes whose rule an element doesn't keep
-abbrev pub Tells : (BERMode → Type 0) → Option Diagnostic → Type 0
-Tells P said = (m : BERMode) → IsTrue (spares said m) ↔ P m
+abbrev pub Pins : (BERMode → Type 0) → Option Diagnostic → Type 0
+Pins P said = (m : BERMode) → IsTrue (spares said m) ↔ P m
