@@ -1,5 +1,5 @@
 -- More is resolved once a definition is added.
-use Rattle.std.proofs.Common.{◌≡◌, ◌∙◌, ◌∷◌, ◌++◌, ℕ, List, [], Result, Ok, Err, Some, sym, subst}
+use Rattle.std.proofs.Common.{◌≡◌, ◌∙◌, ◌∷◌, ◌++◌, ℕ, Bool, List, [], Result, Ok, Err, Some, sym, subst}
 use Rattle.std.specs.Global.{Vec}
 use Rattle.std.specs.List.{slice_get}
 use Rattle.std.specs.Result.{IfOk, OnErr}
@@ -13,12 +13,13 @@ use Rattle.asn1_types.specs.declared.model.Place.{Place}
 use Rattle.asn1_types.specs.declared.model.TagLayer.{TagLayer}
 use Rattle.asn1_types.specs.declared.problem.Stop.{Stop}
 use Rattle.asn1_types.specs.declared.resolver.Resolver.{Resolver}
-use Rattle.asn1_types.specs.Context.{Context, IsAdded, context_of}
+use Rattle.asn1_types.specs.Assignments.{IsAssigned}
+use Rattle.asn1_types.specs.Context.{Context, IsAdded, IsUnchanged, context_of}
 use Rattle.asn1_types.specs.Definitions.{Continues, IsBodyOf, IsDefinition, alias, inside, inside_enumerated, is_choice, value, with_body}
 use Rattle.asn1_types.specs.Layers.{AreLayers}
-use Rattle.asn1_types.specs.Notations.{IsAssigned, IsBody, IsNotation, in_place}
+use Rattle.asn1_types.specs.Notations.{IsBody, IsEnumeratedAt, IsNotation, in_place}
 use Rattle.asn1_types.specs.Tags.{environment_of}
-use Rattle.asn1_types.proofs.Growing.{added_grows, continues_added, continues_at, grow_body, grow_body_of, grow_notation}
+use Rattle.asn1_types.proofs.Growing.{added_grows, continues_added, continues_at, continues_then, continues_unchanged, grow_body, grow_body_of, grow_notation}
 use Rattle.asn1_types.proofs.Later.{there_at_end}
 use Rattle.asn1_syntax.specs.declared.token.Token.{Token}
 use Rattle.asn1_syntax.specs.declared.tree.Component.{Component}
@@ -37,6 +38,23 @@ continues_outcome (Err e) added failed same is = continues_at failed same
 
 module _ {a b : Context} {index assignment : ℕ} {place : Place} {tags : List TagLayer} {body : Body}
     (added : IsAdded a b index place assignment tags body) where
+  -- the definition is at the index
+  there_added : slice_get b.definitions index ≡ Some added.definition
+  there_added =
+      let at_end : slice_get (a.definitions ++ added.definition ∷ []) index ≡ Some added.definition =
+      subst (λ (i : ℕ). slice_get (a.definitions ++ added.definition ∷ []) i ≡ Some added.definition) (sym added.at)
+      (there_at_end a.definitions added.definition) in
+      subst (λ (l : List Definition). slice_get l index ≡ Some added.definition) (sym added.definitions) at_end
+
+  pub is_enumerated_at : (items : Enumeration) → tags ≡ [] → body ≡ bodies.Enumerated items → IsEnumeratedAt b index
+  is_enumerated_at items none is = record {
+    definition = added.definition;
+    items = items;
+    there = there_added;
+    tags = added.tags_are ∙ none;
+    body = added.body_is ∙ is;
+  }
+
   pub is_enumeration_inside : (items : Enumeration) → tags ≡ [] → body ≡ bodies.Enumerated items → IsDefinition b added.definition
   is_enumeration_inside items none is = inside_enumerated (added.tags_are ∙ none) (added.body_is ∙ is)
 
@@ -92,10 +110,42 @@ module _ {a b : Context} {index assignment : ℕ} {place : Place} {tags : List T
 
   pub is_in_place : (m : ℕ) (word : Token) (parts : Vec (Component TypeNotation)) → tags ≡ [] → IsBody a m word parts.items body →
       IsNotation b m (trees.Constructed word parts) (notations.Defined index)
-  is_in_place m word parts none is =
-      let at_end : slice_get (a.definitions ++ added.definition ∷ []) index ≡ Some added.definition =
-      subst (λ (i : ℕ). slice_get (a.definitions ++ added.definition ∷ []) i ≡ Some added.definition) (sym added.at)
-      (there_at_end a.definitions added.definition) in
-      let there : slice_get b.definitions index ≡ Some added.definition =
-      subst (λ (l : List Definition). slice_get l index ≡ Some added.definition) (sym added.definitions) at_end in
-      in_place parts there (added.tags_are ∙ none) (body_there m word parts.items is)
+  is_in_place m word parts none is = in_place parts there_added (added.tags_are ∙ none) (body_there m word parts.items is)
+
+pub unchanged_then : {a b c : Resolver} → IsUnchanged a b → IsUnchanged b c → IsUnchanged a c
+unchanged_then g h = record { context = h.context ∙ g.context; assignment = h.assignment ∙ g.assignment }
+
+assigned_then : {a b : Resolver} {m : ℕ} {t : TypeNotation} → IsUnchanged a b → IsAssigned a.scope.modules.now m a.work.assignment t →
+    IsAssigned (context_of b).modules m b.work.assignment t
+assigned_then {a} {b} {m} {t} same assigned =
+    let in_modules : IsAssigned (context_of b).modules m a.work.assignment t =
+    subst (λ (k : Context). IsAssigned k.modules m a.work.assignment t) (sym same.context) assigned in
+    subst (λ (x : ℕ). IsAssigned (context_of b).modules m x t) (sym same.assignment) in_modules
+
+module _ {a b e : Resolver} {m index : ℕ} {t : TypeNotation} {place : Place} {tags : List TagLayer} {body : Body} (same : IsUnchanged a b)
+    (assigned : IsAssigned a.scope.modules.now m a.work.assignment t) (at : place.module ≡ m) (same_work : e.work.assignment ≡ b.work.assignment)
+    (added : IsAdded (context_of b) (context_of e) index place b.work.assignment tags body) where
+  pub continues_value : (n : Notation) → tags ≡ [] → body ≡ bodies.Value n → IsNotation (context_of a) m t n → Continues a e
+  continues_value n none is notation =
+      let then : IsNotation (context_of b) m t n = subst (λ (k : Context). IsNotation k m t n) (sym same.context) notation in
+      continues_then (continues_unchanged same) (continues_added added (is_value added m t n (assigned_then same assigned) at none is then) same_work)
+
+  pub continues_alias : (n : Notation) → tags ≡ [] → body ≡ bodies.Alias n → IsNotation (context_of a) m t n → Continues a e
+  continues_alias n none is notation =
+      let then : IsNotation (context_of b) m t n = subst (λ (k : Context). IsNotation k m t n) (sym same.context) notation in
+      continues_then (continues_unchanged same) (continues_added added (is_alias added m t n (assigned_then same assigned) at none is then) same_work)
+
+  pub continues_with_body : (flag : Bool) → flag ≡ is_choice body → AreLayers (environment_of a.scope.modules.now m) flag [] t tags →
+      IsBodyOf (context_of a) m t body → Continues a e
+  continues_with_body flag is layers body_is =
+      let of_flag : AreLayers (environment_of (context_of a).modules m) (is_choice body) [] t tags =
+      subst (λ (x : Bool). AreLayers (environment_of (context_of a).modules m) x [] t tags) is layers in
+      let then : AreLayers (environment_of (context_of b).modules m) (is_choice body) [] t tags =
+      subst (λ (k : Context). AreLayers (environment_of k.modules m) (is_choice body) [] t tags) (sym same.context) of_flag in
+      let body_then : IsBodyOf (context_of b) m t body = subst (λ (k : Context). IsBodyOf k m t body) (sym same.context) body_is in
+      continues_then (continues_unchanged same) (continues_added added (is_with_body added m t (assigned_then same assigned) at then body_then) same_work)
+
+pub as_enumerated : {a b : Context} {place : Place} {assignment : ℕ} {tags : List TagLayer} {body : Body} (items : Enumeration) (r : Result ℕ Stop) →
+    IfOk r (λ index. IsAdded a b index place assignment tags body) → tags ≡ [] → body ≡ bodies.Enumerated items → IfOk r (IsEnumeratedAt b)
+as_enumerated items (Ok index) added none is = is_enumerated_at added items none is
+as_enumerated items (Err e) added none is = tt

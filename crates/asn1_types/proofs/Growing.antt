@@ -13,33 +13,58 @@ use Rattle.asn1_types.specs.declared.tags_of_types.TagSet.{TagSet}
 use Rattle.asn1_types.specs.Context.{Context, Grows, IsAdded, IsUnchanged, Stays, context_of}
 use Rattle.asn1_types.specs.Definitions.{AreDefinitions, AreResolved, Continues, IsBodyOf, IsDefinition}
 use Rattle.asn1_types.specs.Definitions as definitions_are
-use Rattle.asn1_types.specs.Notations.{AreParts, IsBody, IsNotation, IsPlain}
+use Rattle.asn1_types.specs.Notations.{AreParts, IsBody, IsDefinedAt, IsEnumeratedAt, IsNamed, IsNotation, IsPlain}
 use Rattle.asn1_types.specs.Notations as notations_are
 use Rattle.asn1_types.specs.Untagged.{IsUntaggedWithin}
 use Rattle.asn1_types.proofs.Later.{finished_later, stays_in_more, tagged_later, untagged_within_later}
 use Rattle.asn1_syntax.specs.declared.token.Token.{Token}
 use Rattle.asn1_syntax.specs.declared.tree.Component.{Component}
 use Rattle.asn1_syntax.specs.declared.tree.Module.{Module}
+use Rattle.asn1_syntax.specs.declared.tree.PlainType.{PlainType}
 use Rattle.asn1_syntax.specs.declared.tree.TypeNotation.{TypeNotation}
 
 abbrev pub later_of : Context → List Definition → List TagSet → Context
 later_of c ds ss = record { modules = c.modules; known = c.known; definitions = ds; sets = ss }
 
 module _ (c : Context) (ds : List Definition) (ss : List TagSet) (more_ds : Stays c.definitions ds) (more_ss : Stays c.sets ss) where
+  enumerated_later : {index : ℕ} → IsEnumeratedAt c index → IsEnumeratedAt (later_of c ds ss) index
+  enumerated_later {index} is = record {
+    definition = is.definition;
+    items = is.items;
+    there = more_ds index is.definition is.there;
+    tags = is.tags;
+    body = is.body;
+  }
+
+  defined_later : {m assignment index : ℕ} → IsDefinedAt c m assignment index → IsDefinedAt (later_of c ds ss) m assignment index
+  defined_later {index = index} is = record {
+    definition = is.definition;
+    there = more_ds index is.definition is.there;
+    assignment_is = is.assignment_is;
+    place_is = is.place_is;
+  }
+
   mutual
     pub notation_later : {m : ℕ} {t : TypeNotation} {n : Notation} → IsNotation c m t n → IsNotation (later_of c ds ss) m t n
     notation_later (notations_are.plain is) = notations_are.plain (plain_later is)
     notation_later (notations_are.under_tag is tagged) = notations_are.under_tag (notation_later is) (tagged_later c.known c.sets ss more_ss tagged)
-    notation_later (notations_are.selected is) = notations_are.selected (notation_later is)
+    notation_later (notations_are.selected chosen is) = notations_are.selected chosen (notation_later is)
     notation_later (notations_are.list is made) = notations_are.list (notation_later is) made
     notation_later (notations_are.in_place {index = i} parts {definition = d} there tags is) =
         notations_are.in_place parts (more_ds i d there) tags (body_later is)
     notation_later (notations_are.with_constraints is constrained) = notations_are.with_constraints (notation_later is) constrained
 
-    pub plain_later : {n : Notation} → IsPlain c n → IsPlain (later_of c ds ss) n
-    plain_later (notations_are.without_tag is) = notations_are.without_tag is
-    plain_later (notations_are.of_name assigned is) = notations_are.of_name assigned (notation_later is)
-    plain_later (notations_are.in_itself is) = notations_are.in_itself is
+    pub plain_later : {m : ℕ} {t : PlainType} {n : Notation} → IsPlain c m t n → IsPlain (later_of c ds ss) m t n
+    plain_later (notations_are.of_word word is) = notations_are.of_word word is
+    plain_later (notations_are.of_enumerated word is) = notations_are.of_enumerated word (enumerated_later is)
+    plain_later (notations_are.left_open is) = notations_are.left_open is
+    plain_later (notations_are.of_crate means) = notations_are.of_crate means
+    plain_later (notations_are.of_name place means is) = notations_are.of_name place means (named_later is)
+
+    pub named_later : {m assignment : ℕ} {n : Notation} → IsNamed c m assignment n → IsNamed (later_of c ds ss) m assignment n
+    named_later (notations_are.of_definition is) = notations_are.of_definition (defined_later is)
+    named_later (notations_are.of_type assigned is) = notations_are.of_type assigned (notation_later is)
+    named_later (notations_are.in_itself is) = notations_are.in_itself is
 
     pub body_later : {m : ℕ} {word : Token} {components : List (Component TypeNotation)} {body : Body} → IsBody c m word components body →
         IsBody (later_of c ds ss) m word components body
@@ -77,9 +102,6 @@ carry F c k g is =
 
 pub grow_notation : {c k : Context} → Grows c k → {m : ℕ} {t : TypeNotation} {n : Notation} → IsNotation c m t n → IsNotation k m t n
 grow_notation {c} {k} g {m} {t} {n} is = carry (λ x. IsNotation x m t n) c k g (notation_later c k.definitions k.sets g.definitions g.sets is)
-
-pub grow_plain : {c k : Context} → Grows c k → {n : Notation} → IsPlain c n → IsPlain k n
-grow_plain {c} {k} g {n} is = carry (λ x. IsPlain x n) c k g (plain_later c k.definitions k.sets g.definitions g.sets is)
 
 pub grow_body : {c k : Context} → Grows c k → {m : ℕ} {word : Token} {components : List (Component TypeNotation)} {body : Body} →
     IsBody c m word components body → IsBody k m word components body

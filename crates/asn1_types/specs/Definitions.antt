@@ -8,9 +8,10 @@ use Rattle.asn1_types.specs.declared.model.Enumeration.{Enumeration}
 use Rattle.asn1_types.specs.declared.model.Notation.{Notation}
 use Rattle.asn1_types.specs.declared.resolver.Resolver.{Resolver}
 use Rattle.asn1_types.specs.declared.tags_of_types.TagSet.{TagSet}
+use Rattle.asn1_types.specs.Assignments.{IsAssigned}
 use Rattle.asn1_types.specs.Context.{Context, Grows, context_of}
 use Rattle.asn1_types.specs.Layers.{AreLayers}
-use Rattle.asn1_types.specs.Notations.{IsAssigned, IsBody, IsNotation}
+use Rattle.asn1_types.specs.Notations.{IsBody, IsNotation}
 use Rattle.asn1_types.specs.Tags.{environment_of}
 use Rattle.asn1_types.specs.Untagged.{IsUntaggedWithin}
 use Rattle.asn1_syntax.specs.declared.token.Token.{Token}

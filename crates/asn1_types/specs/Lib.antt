@@ -8,6 +8,10 @@ pub mod Presence
 pub mod Parts
 pub mod Bounds
 pub mod Context
+pub mod Names
+pub mod Words
+pub mod Assignments
+pub mod Cores
 pub mod Notations
 pub mod Definitions
 pub mod PartsOf

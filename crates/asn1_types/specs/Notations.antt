@@ -1,29 +1,36 @@
 -- The notations of types, and the bodies of SEQUENCEs, SETs and CHOICEs, as X.680 has them of what modules write.
 use Rattle.std.specs.Prelude.{◌≡◌, ◌⊎◌, ℕ, Bool, true, false, List, Option, Some, None, [], ◌∷◌, ◌++◌, length, map, codes, slice_get}
 use Rattle.std.specs.Global.{Box, Vec}
+use Rattle.std.specs.List.{list_any}
 use Rattle.std.specs.Str.{bytes_eq}
 use Rattle.asn1_types.specs.declared.components.WrittenPart.{WrittenPart}
 use Rattle.asn1_types.specs.declared.model.Alternative.{Alternative}
 use Rattle.asn1_types.specs.declared.model.Body.{Body}
 use Rattle.asn1_types.specs.declared.model.Body.TheVariants as bodies
 use Rattle.asn1_types.specs.declared.model.Definition.{Definition}
+use Rattle.asn1_types.specs.declared.model.Enumeration.{Enumeration}
 use Rattle.asn1_types.specs.declared.model.IntegerBounds.{IntegerBounds}
 use Rattle.asn1_types.specs.declared.model.Notation.{Notation}
 use Rattle.asn1_types.specs.declared.model.Notation.TheVariants as notations
 use Rattle.asn1_types.specs.declared.model.Part.{Part}
+use Rattle.asn1_types.specs.declared.model.Place.{Place}
 use Rattle.asn1_types.specs.declared.model.Size.{Size}
 use Rattle.asn1_types.specs.declared.model.TagLayer.{TagLayer}
 use Rattle.asn1_types.specs.declared.model.TagMode.TheVariants as modes
-use Rattle.asn1_types.specs.declared.model.TextKind.{TextKind}
+use Rattle.asn1_types.specs.declared.scope.AssignmentPlace.{AssignmentPlace}
+use Rattle.asn1_types.specs.declared.scope.Meaning.TheVariants as meanings
+use Rattle.asn1_types.specs.Assignments.{IsAssigned, assignment_there, parameters_of}
 use Rattle.asn1_types.specs.Bounds.{DiffersInBounds, IsConstrained}
 use Rattle.asn1_types.specs.Context.{Context}
+use Rattle.asn1_types.specs.Cores.{IsSelected}
+use Rattle.asn1_types.specs.Names.{Refers, has_text, name_of}
 use Rattle.asn1_types.specs.Numbers.{AreNumbers}
 use Rattle.asn1_types.specs.Parts.{IsFinished}
 use Rattle.asn1_types.specs.Tagged.{IsTaggedBy, IsUnder}
 use Rattle.asn1_types.specs.Tags.{environment_of}
+use Rattle.asn1_types.specs.Words.{IsOfNumber, word_number}
 use Rattle.asn1_syntax.specs.declared.token.Token.{Token}
 use Rattle.asn1_syntax.specs.declared.tree.Assignment.{Assignment}
-use Rattle.asn1_syntax.specs.declared.tree.Assignment.TheVariants as assignments
 use Rattle.asn1_syntax.specs.declared.tree.Component.{Component}
 use Rattle.asn1_syntax.specs.declared.tree.ListHead.{ListHead}
 use Rattle.asn1_syntax.specs.declared.tree.Module.{Module}
@@ -32,52 +39,72 @@ use Rattle.asn1_syntax.specs.declared.tree.TagNotation.{TagNotation}
 use Rattle.asn1_syntax.specs.declared.tree.TypeNotation.{TypeNotation}
 use Rattle.asn1_syntax.specs.declared.tree.TypeNotation.TheVariants as trees
 
--- a notation without a tag that is written: that of a type with a word of its own, an open type, a definition, or a type of another crate
-pub data IsWithoutTag (n : Notation) : Type 0 where
-  boolean : n ≡ notations.Boolean → IsWithoutTag n
-  null : n ≡ notations.Null → IsWithoutTag n
-  integer : {bounds : IntegerBounds} {names : Option ℕ} → n ≡ notations.Integer bounds names → IsWithoutTag n
-  object_identifier : n ≡ notations.ObjectIdentifier → IsWithoutTag n
-  octet_string : {size : Size} → n ≡ notations.OctetString size → IsWithoutTag n
-  bit_string : {size : Size} → n ≡ notations.BitString size → IsWithoutTag n
-  named_bits : {size : Size} {names : Option ℕ} → n ≡ notations.NamedBits size names → IsWithoutTag n
-  text : {kind : TextKind} {size : Size} → n ≡ notations.Text kind size → IsWithoutTag n
-  utc_time : n ≡ notations.UtcTime → IsWithoutTag n
-  generalized_time : n ≡ notations.GeneralizedTime → IsWithoutTag n
-  any : n ≡ notations.Any → IsWithoutTag n
-  octets_under : {number : ℕ} → n ≡ notations.OctetsUnder number → IsWithoutTag n
-  elements_under : {number : ℕ} → n ≡ notations.ElementsUnder number → IsWithoutTag n
-  of_definition : {index : ℕ} → n ≡ notations.Defined index → IsWithoutTag n
-  of_crate : {index : ℕ} → n ≡ notations.Imported index → IsWithoutTag n
-
--- the type that an assignment gives a name
-abbrev pub assigned_by : Assignment → Option TypeNotation
-assigned_by (assignments.Type name t) = Some t
-assigned_by (assignments.Value name t tokens) = None
-assigned_by (assignments.ParameterizedType name parameters t) = Some t
-assigned_by (assignments.ParameterizedValue name parameters t tokens) = None
-assigned_by (assignments.Class name parameters fields) = None
-
-abbrev pub assignment_there : Option Module → ℕ → Option Assignment
-assignment_there None assignment = None
-assignment_there (Some m) assignment = slice_get m.assignments.items assignment
-
--- a type is assigned in the module at an index, by the assignment at an index there
-pub record IsAssigned (modules : List Module) (m assignment : ℕ) (t : TypeNotation) : Type 0 where
-  pub there : Assignment
-  pub is : assignment_there (slice_get modules m) assignment ≡ Some there
-  pub assigns : assigned_by there ≡ Some t
-
 -- a type inside itself, whose elements are as they came, under its outermost tag
 pub record IsAsItCame (n : Notation) : Type 0 where
   pub layer : TagLayer
   pub under : IsUnder layer (notations.ElementsUnder 16) n
   pub mode : layer.mode ≡ modes.Implicit
 
--- a type inside itself: as it came, under its outermost tag or without one
+-- a type inside itself: as it came, under its outermost tag, or a SEQUENCE, a SET or any element without one
 pub data IsInItself (n : Notation) : Type 0 where
-  without_tag : IsWithoutTag n → IsInItself n
   under_its_tag : IsAsItCame n → IsInItself n
+  sequence_in_itself : n ≡ notations.ElementsUnder 16 → IsInItself n
+  set_in_itself : n ≡ notations.ElementsUnder 17 → IsInItself n
+  any_in_itself : n ≡ notations.Any → IsInItself n
+
+-- where the name is that an assignment gives a type
+pub record IsNamePlace (modules : List Module) (m assignment : ℕ) (place : Place) : Type 0 where
+  pub there : Assignment
+  pub is : assignment_there (slice_get modules m) assignment ≡ Some there
+  pub module_is : place.module ≡ m
+  pub offset_is : place.offset ≡ (name_of there).offset
+
+-- the definition at an index is that of an assignment
+pub record IsDefinedAt (c : Context) (m assignment index : ℕ) : Type 0 where
+  pub definition : Definition
+  pub there : slice_get c.definitions index ≡ Some definition
+  pub assignment_is : definition.assignment ≡ assignment
+  pub place_is : IsNamePlace c.modules m assignment definition.place
+
+-- the definition at an index is an ENUMERATED without a tag before it
+pub record IsEnumeratedAt (c : Context) (index : ℕ) : Type 0 where
+  pub definition : Definition
+  pub items : Enumeration
+  pub there : slice_get c.definitions index ≡ Some definition
+  pub tags : definition.tags.items ≡ []
+  pub body : definition.body ≡ bodies.Enumerated items
+
+-- a name is that of a parameter of an assignment
+pub record IsParameter (modules : List Module) (text : List ℕ) : Type 0 where
+  pub m : ℕ
+  pub assignment : ℕ
+  pub there : Assignment
+  pub is : assignment_there (slice_get modules m) assignment ≡ Some there
+  pub named : list_any (has_text text) (parameters_of there) ≡ true
+
+-- the words of a field of a class have `&` before the field's name
+abbrev pub is_field : List Token → Bool
+is_field words = list_any (has_text (codes "&")) words
+
+-- the notation of a field: any element, or that of one of three types without a tag
+pub data IsOfField (n : Notation) : Type 0 where
+  any_of_field : n ≡ notations.Any → IsOfField n
+  object_identifier_of_field : n ≡ notations.ObjectIdentifier → IsOfField n
+  integer_of_field : {bounds : IntegerBounds} {names : Option ℕ} → n ≡ notations.Integer bounds names → IsOfField n
+  boolean_of_field : n ≡ notations.Boolean → IsOfField n
+
+-- the number of the UNIVERSAL tag of the type that a first word means
+abbrev pub number_of_first : Option Token → Option (Option ℕ)
+number_of_first None = None
+number_of_first (Some word) = word_number word.text.now
+
+abbrev pub number_by_words : PlainType → Option (Option ℕ)
+number_by_words t = number_of_first (slice_get t.words.items 0)
+
+-- what a type without a word of its own means: a parameter or a field, which is left open
+pub data IsLeftOpen (modules : List Module) (words : List Token) (n : Notation) : Type 0 where
+  parameter : {name : Token} → words ≡ name ∷ [] → IsParameter modules name.text.now → n ≡ notations.Any → IsLeftOpen modules words n
+  field : is_field words ≡ true → IsOfField n → IsLeftOpen modules words n
 
 -- a SET OF or a SEQUENCE OF, of an element in a box
 abbrev pub list_by : Bool → Box Notation → Size → Notation
@@ -120,11 +147,11 @@ number_of_part numbers index = number_there (slice_get numbers index)
 mutual
   -- a notation is that of a type, which the module at an index writes
   pub data IsNotation (c : Context) : ℕ → TypeNotation → Notation → Type 0 where
-    plain : {m : ℕ} {t : PlainType} {n : Notation} → IsPlain c n → IsNotation c m (trees.Plain t) n
+    plain : {m : ℕ} {t : PlainType} {n : Notation} → IsPlain c m t n → IsNotation c m (trees.Plain t) n
     under_tag : {m : ℕ} {tag : TagNotation} {inner : Box TypeNotation} {n outer : Notation} → IsNotation c m inner.value n →
         IsTaggedBy (environment_of c.modules m) c.known c.sets tag n outer → IsNotation c m (trees.Tagged tag inner) outer
-    selected : {m other : ℕ} {name : Token} {inner : Box TypeNotation} {t : TypeNotation} {n : Notation} → IsNotation c other t n →
-        IsNotation c m (trees.Selected name inner) n
+    selected : {m other : ℕ} {name : Token} {inner : Box TypeNotation} {t : TypeNotation} {n : Notation} →
+        IsSelected c.modules c.known m inner.value name.text.now other t → IsNotation c other t n → IsNotation c m (trees.Selected name inner) n
     list : {m : ℕ} {head : ListHead} {inner : Box TypeNotation} {n outer : Notation} → IsNotation c m inner.value n →
         IsListOf head.word n outer → IsNotation c m (trees.ListOf head inner) outer
     in_place : {m index : ℕ} {word : Token} (parts : Vec (Component TypeNotation)) {definition : Definition} →
@@ -133,11 +160,23 @@ mutual
     with_constraints : {m : ℕ} {inner : Box TypeNotation} {constraints : Vec (Vec Token)} {n outer : Notation} → IsNotation c m inner.value n →
         IsConstrained n outer → IsNotation c m (trees.Constrained inner constraints) outer
 
-  -- a notation is that of a type in which no other type is. The notation of a name is without a tag that is written, or that of an assigned type
-  pub data IsPlain (c : Context) : Notation → Type 0 where
-    without_tag : {n : Notation} → IsWithoutTag n → IsPlain c n
-    of_name : {m assignment : ℕ} {t : TypeNotation} {n : Notation} → IsAssigned c.modules m assignment t → IsNotation c m t n → IsPlain c n
-    in_itself : {n : Notation} → IsInItself n → IsPlain c n
+  -- a notation is that of a type in which no other type is: of its word, of what is left open, or of what its name means in the module at an index
+  pub data IsPlain (c : Context) : ℕ → PlainType → Notation → Type 0 where
+    of_word : {m : ℕ} {t : PlainType} {n : Notation} {number : Option ℕ} → number_by_words t ≡ Some number → IsOfNumber n number → IsPlain c m t n
+    of_enumerated : {m index : ℕ} {t : PlainType} → number_by_words t ≡ Some (Some 10) → IsEnumeratedAt c index →
+        IsPlain c m t (notations.Defined index)
+    left_open : {m : ℕ} {t : PlainType} {n : Notation} → IsLeftOpen c.modules t.words.items n → IsPlain c m t n
+    of_crate : {m index : ℕ} {t : PlainType} → Refers c.modules c.known m t.words.items (meanings.Known index) →
+        IsPlain c m t (notations.Imported index)
+    of_name : {m : ℕ} {t : PlainType} {n : Notation} (place : AssignmentPlace) → Refers c.modules c.known m t.words.items (meanings.Assigned place) →
+        IsNamed c place.module place.assignment n → IsPlain c m t n
+
+  -- a notation is that of a name of an assigned type: its definition, the notation of the type, or a type inside itself
+  pub data IsNamed (c : Context) : ℕ → ℕ → Notation → Type 0 where
+    of_definition : {m assignment index : ℕ} → IsDefinedAt c m assignment index → IsNamed c m assignment (notations.Defined index)
+    of_type : {m assignment : ℕ} {t : TypeNotation} {n : Notation} → IsAssigned c.modules m assignment t → IsNotation c m t n →
+        IsNamed c m assignment n
+    in_itself : {m assignment : ℕ} {n : Notation} → IsInItself n → IsNamed c m assignment n
 
   -- a body is that of a word and of what is in braces after it, in the module at an index
   pub data IsBody (c : Context) : ℕ → Token → List (Component TypeNotation) → Body → Type 0 where

@@ -1,4 +1,6 @@
 //! The types of X.680 that have words of their own.
+ghost use Rattle.std.specs.Prelude.{◌≡◌, option_map};
+ghost use Rattle.asn1_types.specs.Words.{builtin_number, word_number};
 
 use crate::model::{Loosening, TextKind};
 
@@ -79,6 +81,8 @@ static BUILTINS: [BuiltinRow; 30] = [
 ];
 
 /// The type of a first word, if it is no name.
-pub fn builtin_of(word: &[u8]) -> Option<Builtin> {
+pub fn builtin_of(word: &[u8]) -> Option<Builtin>
+    ensures { option_map builtin_number result ≡ word_number word.now }
+{
     BUILTINS.iter().find(|row| row.0 == word).map(|row| row.1)
 }

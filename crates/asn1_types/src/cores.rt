@@ -1,5 +1,9 @@
 //! The type that a name means, through names, tags and constraints.
-ghost use Rattle.std.specs.Prelude.{◌≡◌};
+ghost use Rattle.std.specs.Prelude.{◌≡◌, IfOk, IfSome};
+ghost use Rattle.asn1_types.specs.Assignments.{IsAssigned};
+ghost use Rattle.asn1_types.specs.Cores.{IsMeant};
+ghost use Rattle.asn1_types.specs.Definitions.{IsWithin};
+ghost use Rattle.asn1_types.specs.Names.{Refers};
 ghost use Rattle.asn1_types.specs.Trees.{has_tag_before};
 
 use crate::builtins::builtin_of;
@@ -40,7 +44,9 @@ pub fn is_tagged<'a>(notation: &'a TypeNotation<'a>) -> bool
 }
 
 /// A type without the constraints after it.
-pub fn unconstrained<'a>(notation: &'a TypeNotation<'a>) -> &'a TypeNotation<'a> {
+pub fn unconstrained<'a>(notation: &'a TypeNotation<'a>) -> &'a TypeNotation<'a>
+    ensures { IsWithin notation.now result.now }
+{
     let mut at = notation;
     while let TypeNotation::Constrained(inner, _) = at {
         at = &**inner;
@@ -49,7 +55,9 @@ pub fn unconstrained<'a>(notation: &'a TypeNotation<'a>) -> &'a TypeNotation<'a>
 }
 
 /// A type without the tags before it and the constraints after it.
-pub fn untagged<'a>(notation: &'a TypeNotation<'a>) -> &'a TypeNotation<'a> {
+pub fn untagged<'a>(notation: &'a TypeNotation<'a>) -> &'a TypeNotation<'a>
+    ensures { IsWithin notation.now result.now }
+{
     let mut at = notation;
     loop {
         at = match at {
@@ -73,7 +81,9 @@ pub fn reference_meaning<'a>(
     scope: Scope<'a>,
     module: usize,
     plain: &'a PlainType<'a>,
-) -> Result<Meaning, Problem> {
+) -> Result<Meaning, Problem>
+    ensures { IfOk result (Refers scope.entry.modules.now scope.entry.known.now «module» plain.now.words.items) }
+{
     match plain.words.as_slice() {
         [name] => meaning_of(scope, module, *name),
         [from, dot, name] if is(*dot, b".") => external_meaning(scope, module, *from, *name),
@@ -87,7 +97,10 @@ pub fn reference_meaning<'a>(
 }
 
 /// The type that an assignment gives a name.
-pub fn assigned_type<'a>(scope: Scope<'a>, place: AssignmentPlace) -> Option<TypeAt<'a>> {
+pub fn assigned_type<'a>(scope: Scope<'a>, place: AssignmentPlace) -> Option<TypeAt<'a>>
+    ensures assigned { IfSome result (λ at. IsAssigned scope.entry.modules.now place.module place.assignment at.notation.now) }
+    ensures module { IfSome result (λ at. at.module ≡ place.module) }
+{
     let notation = type_assigned(assignment_at(scope.modules, place)?)?;
     Some(TypeAt {
         module: place.module,
@@ -104,7 +117,10 @@ fn is_reference(notation: &TypeNotation<'_>) -> bool {
 }
 
 // The type that a reference means, or `None` if it is a known type.
-fn referred<'a>(scope: Scope<'a>, at: TypeAt<'a>) -> Result<Option<TypeAt<'a>>, Problem> {
+fn referred<'a>(scope: Scope<'a>, at: TypeAt<'a>) -> Result<Option<TypeAt<'a>>, Problem>
+    ensures { IfOk result (λ found. IfSome found (λ next. IsMeant scope.entry.modules.now scope.entry.known.now at.entry.module at.entry.notation.now
+        next.module next.notation.now)) }
+{
     let TypeNotation::Plain(plain) = at.notation else {
         return Ok(None);
     };
@@ -115,11 +131,10 @@ fn referred<'a>(scope: Scope<'a>, at: TypeAt<'a>) -> Result<Option<TypeAt<'a>>, 
 }
 
 /// The type that a type means through names and constraints, and, if `tags_too`, through tags. A known type stays a name.
-pub fn core<'a>(
-    scope: Scope<'a>,
-    start: TypeAt<'a>,
-    tags_too: bool,
-) -> Result<TypeAt<'a>, Problem> {
+pub fn core<'a>(scope: Scope<'a>, start: TypeAt<'a>, tags_too: bool) -> Result<TypeAt<'a>, Problem>
+    ensures { IfOk result (λ found. IsMeant scope.entry.modules.now scope.entry.known.now start.entry.module start.entry.notation.now
+        found.module found.notation.now) }
+{
     let mut at = start;
     for _ in 0..MAX_NAMES {
         let notation = if tags_too {

@@ -1,4 +1,7 @@
 //! Types that a module leaves open: parameters (X.683), and fields of classes (X.681).
+ghost use Rattle.std.specs.Prelude.{IfOk, IfSome, IsTrue};
+ghost use Rattle.asn1_types.specs.Context.{IsUnchanged};
+ghost use Rattle.asn1_types.specs.Notations.{IsLeftOpen, IsOfField, IsParameter};
 
 use crate::builtins::{Builtin, builtin_of};
 use crate::cores::{TypeAt, place_of};
@@ -6,7 +9,7 @@ use crate::integers::UNBOUNDED;
 use crate::model::{Loosening, Notation};
 use crate::problem::Stop;
 use crate::resolver::{Resolver, note};
-use crate::scope::{Meaning, Scope, assignment_at, meaning_of};
+use crate::scope::{AssignmentPlace, Meaning, Scope, assignment_at, meaning_of, parameters_of};
 use crate::tokens::{has_text, is};
 use asn1_syntax::Token;
 use asn1_syntax::tree::{Assignment, PlainType};
@@ -28,13 +31,25 @@ fn word_after<'a>(fields: &'a [Token<'a>], field: &[u8]) -> Option<Token<'a>> {
     fields.get(index.checked_add(1)?).copied()
 }
 
-// The type of a field: that of the class, if it has a word of its own. That of `id` is OBJECT IDENTIFIER, as in TYPE-IDENTIFIER.
-fn field_notation<'a>(
+// The type of a field: that of the class, if it has a word of its own. A field of a field is any element.
+fn field_notation<'a>(scope: Scope<'a>, module: usize, words: &'a [Token<'a>]) -> Notation
+    ensures { IsOfField result }
+{
+    match words {
+        [class, _, _, field] => own_field_notation(scope, module, *class, *field),
+        _ => Notation::Any,
+    }
+}
+
+// The type of a field of a class. That of `id` is OBJECT IDENTIFIER, as in TYPE-IDENTIFIER.
+fn own_field_notation<'a>(
     scope: Scope<'a>,
     module: usize,
     class: Token<'a>,
     field: Token<'a>,
-) -> Notation {
+) -> Notation
+    ensures { IsOfField result }
+{
     match word_after(class_fields(scope, module, class), field.text) {
         Some(word) => match builtin_of(word.text) {
             Some(Builtin::ObjectIdentifier) => Notation::ObjectIdentifier,
@@ -47,13 +62,31 @@ fn field_notation<'a>(
     }
 }
 
-// Whether a name is a parameter, and not the governor of one.
-fn is_parameter(parameters: &[Token<'_>], name: &[u8]) -> bool {
+// Whether a name is the governor of a parameter, before `:` (X.683, 8.3).
+fn is_governor(parameters: &[Token<'_>], name: &[u8]) -> bool {
     let Some(index) = parameters.iter().position(|token| is(*token, name)) else {
         return false;
     };
     let (_, rest) = parameters.split_at(index);
-    !matches!(rest, [_, colon, ..] if is(*colon, b":"))
+    matches!(rest, [_, colon, ..] if is(*colon, b":"))
+}
+
+// Whether a name is a parameter of the assignment that is being resolved, and not the governor of one.
+fn is_parameter(r: &Resolver<'_>, name: &[u8]) -> bool
+    ensures { IsTrue result → IsParameter r.now.scope.modules.now name.now }
+{
+    let place = AssignmentPlace {
+        module: r.work.module,
+        assignment: r.work.assignment,
+    };
+    let Some(assignment) = assignment_at(r.scope.modules, place) else {
+        return false;
+    };
+    let parameters = parameters_of(assignment);
+    if is_governor(parameters, name) {
+        return false;
+    }
+    has_text(parameters, name)
 }
 
 /// The notation of a parameter or a field of a class. `None` is another type.
@@ -61,22 +94,21 @@ pub fn open_notation<'a>(
     r: &mut Resolver<'a>,
     at: TypeAt<'a>,
     plain: &'a PlainType<'a>,
-) -> Result<Option<Notation>, Stop> {
+) -> Result<Option<Notation>, Stop>
+    ensures unchanged { IsUnchanged r.old r.new }
+    ensures left_open { IfOk result (λ found. IfSome found (IsLeftOpen r.new.scope.modules.now plain.now.words.items)) }
+{
     match plain.words.as_slice() {
-        [name] if is_parameter(r.work.parameters, name.text) => {
+        [name] if is_parameter(r, name.text) => {
             note(r, place_of(at), Loosening::Parameter)?;
             Ok(Some(Notation::Any))
         }
-        [class, _, _, field] => {
-            let notation = field_notation(r.scope, at.module, *class, *field);
+        words if has_text(words, b"&") => {
+            let notation = field_notation(r.scope, at.module, words);
             if matches!(notation, Notation::Any) {
                 note(r, place_of(at), Loosening::OpenType)?;
             }
             Ok(Some(notation))
-        }
-        words if has_text(words, b"&") => {
-            note(r, place_of(at), Loosening::OpenType)?;
-            Ok(Some(Notation::Any))
         }
         _ => Ok(None),
     }

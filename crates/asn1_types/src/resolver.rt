@@ -7,7 +7,6 @@ use crate::model::{Body, Definition, Loosening, Looser, NamedNumbers, Place, Tag
 use crate::problem::{Problem, Stop};
 use crate::scope::{AssignmentPlace, Scope, exports_name};
 use crate::tags_of_types::{TagSet, set_of_body};
-use asn1_syntax::Token;
 use asn1_syntax::tree::{Module, TagDefault};
 use std::alloc::{AllocError, Global};
 
@@ -50,12 +49,12 @@ pub struct Resolver<'a> {
 /// A definition that is being resolved.
 #[derive(Drop)]
 pub struct Work<'a> {
+    /// The index of the module of its assignment.
+    pub module: usize,
     /// The index of its assignment.
     pub assignment: usize,
     /// Whether the module exports its name.
     pub is_exported: bool,
-    /// The parameters of its assignment (X.683, 8.3).
-    pub parameters: &'a [Token<'a>],
     /// The names that lead to the type.
     pub path: Vec<&'a [u8]>,
     /// Where its notation accepts more than the module says.
@@ -87,9 +86,9 @@ pub fn new_resolver<'a>(alloc: Global, scope: Scope<'a>) -> Result<Resolver<'a>,
         named_numbers: Vec::new(alloc),
         problems: Vec::new(alloc),
         work: Work {
+            module: 0,
             assignment: 0,
             is_exported: false,
-            parameters: &[],
             path: Vec::new(alloc),
             looser: Vec::new(alloc),
         },
@@ -141,7 +140,6 @@ pub fn begin<'a>(
     r: &mut Resolver<'a>,
     place: AssignmentPlace,
     name: &'a [u8],
-    parameters: &'a [Token<'a>],
 ) -> Result<Work<'a>, Stop>
     ensures context { context_of r.new ≡ context_of r.old }
     ensures begun { OnOk result (r.new.work.assignment ≡ place.assignment) }
@@ -155,9 +153,9 @@ pub fn begin<'a>(
         None => false,
     };
     let work = Work {
+        module: place.module,
         assignment: place.assignment,
         is_exported,
-        parameters,
         path,
         looser: Vec::new(r.alloc),
     };

@@ -1,6 +1,7 @@
 //! What a name means in a module (X.680, 13.10 to 13.17).
-ghost use Rattle.std.specs.Prelude.{◌≡◌, IfSome, MatchOption, None, Some, slice_get};
-ghost use Rattle.asn1_types.specs.Notations.{assigned_by, assignment_there};
+ghost use Rattle.std.specs.Prelude.{◌≡◌, IfOk, IfSome, Some, slice_get};
+ghost use Rattle.asn1_types.specs.Assignments.{assigned_by, assignment_there, parameters_of};
+ghost use Rattle.asn1_types.specs.Names.{IsImportedFrom, IsStep, IsStepFrom, Means, MeansFrom, assigned_index, exports, imports_name, known_index, module_index, name_of};
 
 use crate::model::KnownType;
 use crate::problem::{Problem, ProblemKind, problem_at};
@@ -36,7 +37,9 @@ pub enum Meaning {
 }
 
 /// The name that is assigned.
-pub fn assigned_name<'a>(assignment: &Assignment<'a>) -> Token<'a> {
+pub fn assigned_name<'a>(assignment: &Assignment<'a>) -> Token<'a>
+    ensures { result ≡ name_of assignment.now }
+{
     match assignment {
         Assignment::Type(name, _)
         | Assignment::Value(name, _, _)
@@ -58,7 +61,9 @@ pub fn type_assigned<'a>(assignment: &'a Assignment<'a>) -> Option<&'a TypeNotat
 }
 
 /// The parameters of an assignment.
-pub fn parameters_of<'a>(assignment: &'a Assignment<'a>) -> &'a [Token<'a>] {
+pub fn parameters_of<'a>(assignment: &'a Assignment<'a>) -> &'a [Token<'a>]
+    ensures { result.now ≡ parameters_of assignment.now }
+{
     match assignment {
         Assignment::ParameterizedType(_, parameters, _) => parameters.as_slice(),
         _ => &[],
@@ -66,7 +71,9 @@ pub fn parameters_of<'a>(assignment: &'a Assignment<'a>) -> &'a [Token<'a>] {
 }
 
 /// The index of the assignment of a name in a module.
-pub fn assignment_index(module: &Module<'_>, name: &[u8]) -> Option<usize> {
+pub fn assignment_index(module: &Module<'_>, name: &[u8]) -> Option<usize>
+    ensures { result ≡ assigned_index name.now «module».now }
+{
     module
         .assignments
         .iter()
@@ -85,34 +92,38 @@ pub fn assignment_at<'a>(
 }
 
 // The index of the module of a name.
-fn module_index(modules: &[Module<'_>], name: &[u8]) -> Option<usize> {
+fn module_index(modules: &[Module<'_>], name: &[u8]) -> Option<usize>
+    ensures { result ≡ module_index name.now modules.now }
+{
     modules.iter().position(|module| is(module.name, name))
 }
 
 // Whether a name is among those that are imported from one module.
-fn imports_name(import: &Import<'_>, name: &[u8]) -> bool {
+fn imports_name(import: &Import<'_>, name: &[u8]) -> bool
+    ensures { result ≡ imports_name name.now import.now }
+{
     is(import.first, name) || has_text(import.others.as_slice(), name)
 }
 
-// The module that names are imported from, if one of them is this name.
-fn module_of<'a>(import: &Import<'a>, name: &[u8]) -> Option<Token<'a>>
-    ensures { IfSome result (λ token. token.text.now ≡ import.now.module.text.now) }
-{
-    if imports_name(import, name) {
-        Some(import.module)
-    } else {
-        None
-    }
-}
-
 // The name of the module that a name is imported from.
-fn imported_from<'a>(module: &Module<'a>, name: &[u8]) -> Option<Token<'a>> {
-    let imports = module.imports.as_ref()?;
-    imports.iter().find_map(|import| module_of(import, name))
+fn imported_from<'a>(module: &Module<'a>, name: &[u8]) -> Option<Token<'a>>
+    ensures { IfSome result (λ from. IsImportedFrom «module».now name.now from.text.now) }
+{
+    let Some(imports) = &module.imports else {
+        return None;
+    };
+    for import in imports {
+        if imports_name(import, name) {
+            return Some(import.module);
+        }
+    }
+    None
 }
 
 /// Whether a module exports a name (X.680, 13.12).
-pub fn exports_name(module: &Module<'_>, name: &[u8]) -> bool {
+pub fn exports_name(module: &Module<'_>, name: &[u8]) -> bool
+    ensures { result ≡ exports name.now «module».now.exports }
+{
     match &module.exports {
         None => true,
         Some(names) => has_text(names.as_slice(), name) || has_text(names.as_slice(), b"ALL"),
@@ -120,7 +131,9 @@ pub fn exports_name(module: &Module<'_>, name: &[u8]) -> bool {
 }
 
 // The known type of a module and a name.
-fn known_index(known: &[KnownType<'_>], module: &[u8], name: &[u8]) -> Option<usize> {
+fn known_index(known: &[KnownType<'_>], module: &[u8], name: &[u8]) -> Option<usize>
+    ensures { result ≡ known_index «module».now name.now known.now }
+{
     known
         .iter()
         .position(|row| row.module == module && row.name == name)
@@ -132,7 +145,9 @@ fn imported<'a>(
     module: usize,
     from: Token<'a>,
     name: Token<'a>,
-) -> Result<Step, Problem> {
+) -> Result<Step, Problem>
+    ensures { IfOk result (IsStepFrom scope.entry.modules.now scope.entry.known.now name.entry.text.now from.entry.text.now) }
+{
     if let Some(index) = known_index(scope.known, from.text, name.text) {
         return Ok(Step::Known(index));
     }
@@ -162,7 +177,9 @@ fn next_step<'a>(
     module: usize,
     user: usize,
     name: Token<'a>,
-) -> Result<Step, Problem> {
+) -> Result<Step, Problem>
+    ensures { IfOk result (IsStep scope.entry.modules.now scope.entry.known.now name.entry.text.now «module») }
+{
     let Some(here) = scope.modules.get(module) else {
         return Err(problem_at(user, name, ProblemKind::ModuleMissing));
     };
@@ -181,7 +198,9 @@ fn meaning_in<'a>(
     module: usize,
     user: usize,
     name: Token<'a>,
-) -> Result<Meaning, Problem> {
+) -> Result<Meaning, Problem>
+    ensures { IfOk result (Means scope.entry.modules.now scope.entry.known.now name.entry.text.now «module») }
+{
     let mut at = module;
     for _ in 0..scope.modules.len() {
         match next_step(scope, at, user, name)? {
@@ -194,11 +213,9 @@ fn meaning_in<'a>(
 }
 
 /// What a name means in a module. The name may be imported through several modules.
-pub fn meaning_of<'a>(
-    scope: Scope<'a>,
-    module: usize,
-    name: Token<'a>,
-) -> Result<Meaning, Problem> {
+pub fn meaning_of<'a>(scope: Scope<'a>, module: usize, name: Token<'a>) -> Result<Meaning, Problem>
+    ensures { IfOk result (Means scope.entry.modules.now scope.entry.known.now name.entry.text.now «module») }
+{
     meaning_in(scope, module, module, name)
 }
 
@@ -208,7 +225,9 @@ pub fn external_meaning<'a>(
     module: usize,
     from: Token<'a>,
     name: Token<'a>,
-) -> Result<Meaning, Problem> {
+) -> Result<Meaning, Problem>
+    ensures { IfOk result (MeansFrom scope.entry.modules.now scope.entry.known.now name.entry.text.now from.entry.text.now) }
+{
     match imported(scope, module, from, name)? {
         Step::Module(index) => meaning_in(scope, index, module, name),
         Step::Known(index) => Ok(Meaning::Known(index)),

@@ -1,8 +1,12 @@
 //! Types, of whatever depth.
-ghost use Rattle.std.specs.Prelude.{◌≡◌};
-ghost use Rattle.asn1_types.specs.Context.{IsUnchanged};
-ghost use Rattle.asn1_types.specs.Definitions.{Continues, is_choice};
-ghost use Rattle.asn1_types.specs.Notations.{number_of_part};
+ghost use Rattle.std.specs.Prelude.{◌≡◌, IfOk, IfSome, IsTrue, slice_get};
+ghost use Rattle.asn1_types.specs.declared.model.Notation.TheVariants.{Defined};
+ghost use Rattle.asn1_types.specs.Context.{IsUnchanged, context_of};
+ghost use Rattle.asn1_types.specs.Definitions.{Continues, IsBodyOf, is_choice};
+ghost use Rattle.asn1_types.specs.Assignments.{IsAssigned};
+ghost use Rattle.asn1_types.specs.Cores.{IsNamedIn, IsSelected};
+ghost use Rattle.asn1_types.specs.Notations.{IsBody, IsDefinedAt, IsEnumeratedAt, IsNamed, IsNotation, IsPlain, number_of_part};
+ghost use Rattle.asn1_types.specs.PartsOf.{ArePartsOf, IsPartOf};
 
 use crate::bodies::{body_of, extension_of, finished, layers, note_constraints, numbers_of};
 use crate::builtins::{Builtin, builtin_of};
@@ -17,9 +21,7 @@ use crate::open_types::open_notation;
 use crate::plain::{at, builtin_notation, constrained, list_of, recursive, tagged};
 use crate::problem::{Problem, ProblemKind, Stop, problem_at};
 use crate::resolver::{Resolver, State, add_definition, begin, set_state, state_of, take_looser};
-use crate::scope::{
-    AssignmentPlace, Meaning, assigned_name, assignment_at, parameters_of, type_assigned,
-};
+use crate::scope::{AssignmentPlace, Meaning, assigned_name, assignment_at, type_assigned};
 use crate::tokens::is;
 use asn1_syntax::Token;
 use asn1_syntax::tree::{Component, Part as TreePart, PlainType, TypeNotation};
@@ -38,7 +40,10 @@ fn too_deep(at: TypeAt<'_>) -> Stop {
 
 /// The notation of a type. What is declared inside it becomes definitions.
 #[cycle(types)]
-pub fn notation<'a>(r: &mut Resolver<'a>, at: TypeAt<'a>, depth: usize) -> Result<Notation, Stop> {
+pub fn notation<'a>(r: &mut Resolver<'a>, at: TypeAt<'a>, depth: usize) -> Result<Notation, Stop>
+    ensures continues { Continues r.old r.new }
+    ensures notation { IfOk result (IsNotation (context_of r.new) at.entry.module at.entry.notation.now) }
+{
     if depth == 0 {
         return Err(too_deep(at));
     }
@@ -82,7 +87,10 @@ pub fn notation<'a>(r: &mut Resolver<'a>, at: TypeAt<'a>, depth: usize) -> Resul
 }
 
 // A type inside another one.
-fn inside<'a>(at: TypeAt<'a>, notation: &'a TypeNotation<'a>) -> TypeAt<'a> {
+fn inside<'a>(at: TypeAt<'a>, notation: &'a TypeNotation<'a>) -> TypeAt<'a>
+    ensures module { result.module ≡ at.entry.module }
+    ensures notation { result.notation.now ≡ notation.now }
+{
     TypeAt {
         module: at.module,
         notation,
@@ -94,7 +102,10 @@ fn selected<'a>(
     r: &Resolver<'a>,
     choice: TypeAt<'a>,
     name: Token<'a>,
-) -> Result<TypeAt<'a>, Problem> {
+) -> Result<TypeAt<'a>, Problem>
+    ensures { IfOk result (λ found. IsSelected r.now.scope.modules.now r.now.scope.known.now choice.entry.module choice.entry.notation.now
+        name.entry.text.now found.module found.notation.now) }
+{
     let found = core(r.scope, choice, true)?;
     let problem = problem_at(choice.module, name, ProblemKind::NoAlternative);
     let TypeNotation::Constructed(word, components) = found.notation else {
@@ -113,7 +124,9 @@ fn selected<'a>(
 fn named_type<'a>(
     components: &'a [Component<'a, TypeNotation<'a>>],
     name: &[u8],
-) -> Option<&'a TypeNotation<'a>> {
+) -> Option<&'a TypeNotation<'a>>
+    ensures { IfSome result (λ t. IsNamedIn components.now name.now t.now) }
+{
     for component in components {
         if let TreePart::Named(token, notation, _) = &component.part
             && is(*token, name)
@@ -124,6 +137,38 @@ fn named_type<'a>(
     None
 }
 
+// The first word of a type in which no other type is.
+fn first_of<'a>(plain: &PlainType<'a>) -> Option<Token<'a>>
+    ensures { result ≡ slice_get plain.now.words.items 0 }
+{
+    plain.words.first().copied()
+}
+
+// The notation of a type that has a word of its own, or that is left open. `None` is a name.
+fn own_notation<'a>(
+    r: &mut Resolver<'a>,
+    at: TypeAt<'a>,
+    plain: &'a PlainType<'a>,
+) -> Result<Option<Notation>, Stop>
+    ensures continues { Continues r.old r.new }
+    ensures notation { IfOk result (λ found. IfSome found (IsPlain (context_of r.new) at.entry.module plain.now)) }
+{
+    let Some(word) = first_of(plain) else {
+        return Err(too_deep(at));
+    };
+    match builtin_of(word.text) {
+        Some(Builtin::Enumerated) => {
+            let index = define_enumeration(r, at)?;
+            Ok(Some(Notation::Defined(index)))
+        }
+        Some(builtin) => {
+            let notation = builtin_notation(r, at, word, builtin)?;
+            Ok(Some(notation))
+        }
+        None => open_notation(r, at, plain),
+    }
+}
+
 // The notation of a type in which no other type is.
 #[cycle(types)]
 fn plain_notation<'a>(
@@ -131,19 +176,12 @@ fn plain_notation<'a>(
     at: TypeAt<'a>,
     plain: &'a PlainType<'a>,
     depth: usize,
-) -> Result<Notation, Stop> {
-    let Some(word) = plain.words.first().copied() else {
-        return Err(too_deep(at));
-    };
-    if let Some(builtin) = builtin_of(word.text) {
-        if matches!(builtin, Builtin::Enumerated) {
-            let index = define_enumeration(r, at)?;
-            return Ok(Notation::Defined(index));
-        }
-        return builtin_notation(r, at, word, builtin);
-    }
-    if let Some(open) = open_notation(r, at, plain)? {
-        return Ok(open);
+) -> Result<Notation, Stop>
+    ensures continues { Continues r.old r.new }
+    ensures notation { IfOk result (IsPlain (context_of r.new) at.entry.module plain.now) }
+{
+    if let Some(notation) = own_notation(r, at, plain)? {
+        return Ok(notation);
     }
     match reference_meaning(r.scope, at.module, plain)? {
         Meaning::Known(index) => Ok(Notation::Imported(index)),
@@ -153,7 +191,8 @@ fn plain_notation<'a>(
 
 // An ENUMERATED inside another type, as a definition.
 fn define_enumeration<'a>(r: &mut Resolver<'a>, at: TypeAt<'a>) -> Result<usize, Stop>
-    ensures { Continues r.old r.new }
+    ensures continues { Continues r.old r.new }
+    ensures enumerated { IfOk result (IsEnumeratedAt (context_of r.new)) }
 {
     let items = enumeration(r.alloc, r.scope, at.module, braces(at.notation))?;
     let tags = Vec::new(r.alloc);
@@ -162,11 +201,10 @@ fn define_enumeration<'a>(r: &mut Resolver<'a>, at: TypeAt<'a>) -> Result<usize,
 }
 
 // The type that an assignment assigns.
-fn type_of<'a>(
-    r: &Resolver<'a>,
-    user: Place,
-    place: AssignmentPlace,
-) -> Result<TypeAt<'a>, Problem> {
+fn type_of<'a>(r: &Resolver<'a>, user: Place, place: AssignmentPlace) -> Result<TypeAt<'a>, Problem>
+    ensures assigned { IfOk result (λ at. IsAssigned r.now.scope.modules.now place.module place.assignment at.notation.now) }
+    ensures module { IfOk result (λ at. at.module ≡ place.module) }
+{
     match assigned_type(r.scope, place) {
         Some(assigned) => Ok(assigned),
         None => Err(Problem {
@@ -177,6 +215,21 @@ fn type_of<'a>(
     }
 }
 
+// Whether the definition at an index is that of an assignment, whose name is at its place.
+fn is_defined_at(r: &Resolver<'_>, place: AssignmentPlace, index: usize) -> bool
+    ensures { IsTrue result → IsDefinedAt (context_of r.now) place.module place.assignment index }
+{
+    let Some(assignment) = assignment_at(r.scope.modules, place) else {
+        return false;
+    };
+    let Some(definition) = r.definitions.get(index) else {
+        return false;
+    };
+    definition.assignment == place.assignment
+        && definition.place.module == place.module
+        && definition.place.offset == assigned_name(assignment).offset
+}
+
 // The notation of a name that an assignment assigns.
 #[cycle(types)]
 fn reference<'a>(
@@ -184,11 +237,14 @@ fn reference<'a>(
     user: TypeAt<'a>,
     place: AssignmentPlace,
     depth: usize,
-) -> Result<Notation, Stop> {
+) -> Result<Notation, Stop>
+    ensures continues { Continues r.old r.new }
+    ensures notation { IfOk result (IsNamed (context_of r.new) place.module place.assignment) }
+{
     let assigned = type_of(r, place_of(user), place)?;
     assign(r, place, depth)?;
     match state_of(r, place) {
-        State::Defined(index) => Ok(Notation::Defined(index)),
+        State::Defined(index) if is_defined_at(r, place, index) => Ok(Notation::Defined(index)),
         State::Alias(index) => {
             set_state(r, place, State::Open);
             let notation = notation(r, assigned, depth)?;
@@ -199,7 +255,7 @@ fn reference<'a>(
             let inner = core(r.scope, assigned, false)?;
             recursive(r, place_of(user), inner)
         }
-        State::Rejected | State::Unresolved => Err(Stop::Rejected(Problem {
+        State::Defined(_) | State::Rejected | State::Unresolved => Err(Stop::Rejected(Problem {
             place: place_of(user),
             kind: ProblemKind::RejectedType,
             other: None,
@@ -209,7 +265,9 @@ fn reference<'a>(
 
 // Resolves the assignment of a type, if it isn't yet.
 #[cycle(types)]
-pub fn assign<'a>(r: &mut Resolver<'a>, place: AssignmentPlace, depth: usize) -> Result<(), Stop> {
+pub fn assign<'a>(r: &mut Resolver<'a>, place: AssignmentPlace, depth: usize) -> Result<(), Stop>
+    ensures { Continues r.old r.new }
+{
     let Some(assignment) = assignment_at(r.scope.modules, place) else {
         return Ok(());
     };
@@ -221,7 +279,7 @@ pub fn assign<'a>(r: &mut Resolver<'a>, place: AssignmentPlace, depth: usize) ->
     }
     let name = assigned_name(assignment);
     set_state(r, place, State::Open);
-    let before = begin(r, place, name.text, parameters_of(assignment))?;
+    let before = begin(r, place, name.text)?;
     let assigned = TypeAt {
         module: place.module,
         notation,
@@ -275,7 +333,11 @@ fn definition<'a>(
     at: TypeAt<'a>,
     place: Place,
     depth: usize,
-) -> Result<State, Stop> {
+) -> Result<State, Stop>
+    requires assigned { IsAssigned r.old.scope.modules.now at.module r.old.work.assignment at.notation.now }
+    requires place { place.module ≡ at.module }
+    ensures { Continues r.old r.new }
+{
     let inner = untagged(at.notation);
     if let TypeNotation::Constructed(word, components) = inner {
         let body = body(r, at.module, *word, components.as_slice(), depth)?;
@@ -298,7 +360,12 @@ fn declared<'a>(
     at: TypeAt<'a>,
     place: Place,
     notation: Notation,
-) -> Result<State, Stop> {
+) -> Result<State, Stop>
+    requires assigned { IsAssigned r.old.scope.modules.now at.module r.old.work.assignment at.notation.now }
+    requires place { place.module ≡ at.module }
+    requires notation { IsNotation (context_of r.old) at.module at.notation.now notation }
+    ensures { Continues r.old r.new }
+{
     let tags = Vec::new(r.alloc);
     let looser = take_looser(r);
     let index = add_definition(r, place, tags, Body::Value(notation), looser)?;
@@ -311,7 +378,12 @@ fn alias<'a>(
     at: TypeAt<'a>,
     place: Place,
     notation: Notation,
-) -> Result<State, Stop> {
+) -> Result<State, Stop>
+    requires assigned { IsAssigned r.old.scope.modules.now at.module r.old.work.assignment at.notation.now }
+    requires place { place.module ≡ at.module }
+    requires notation { IsNotation (context_of r.old) at.module at.notation.now notation }
+    ensures { Continues r.old r.new }
+{
     let tags = Vec::new(r.alloc);
     let looser = take_looser(r);
     let index = add_definition(r, place, tags, Body::Alias(notation), looser)?;
@@ -332,7 +404,12 @@ fn defined<'a>(
     at: TypeAt<'a>,
     place: Place,
     body: Body<'a>,
-) -> Result<State, Stop> {
+) -> Result<State, Stop>
+    requires assigned { IsAssigned r.old.scope.modules.now at.module r.old.work.assignment at.notation.now }
+    requires place { place.module ≡ at.module }
+    requires body { IsBodyOf (context_of r.old) at.module at.notation.now body }
+    ensures { Continues r.old r.new }
+{
     let tags = layers(r, at, is_choice(&body))?;
     note_constraints(r, at)?;
     let looser = take_looser(r);
@@ -349,7 +426,10 @@ fn is_choice(body: &Body<'_>) -> bool
 
 // Adds the definition of a SEQUENCE, a SET or a CHOICE inside another type.
 #[cycle(types)]
-fn define<'a>(r: &mut Resolver<'a>, at: TypeAt<'a>, depth: usize) -> Result<usize, Stop> {
+fn define<'a>(r: &mut Resolver<'a>, at: TypeAt<'a>, depth: usize) -> Result<usize, Stop>
+    ensures continues { Continues r.old r.new }
+    ensures notation { IfOk result (λ index. IsNotation (context_of r.new) at.entry.module at.entry.notation.now (Defined index)) }
+{
     let TypeNotation::Constructed(word, components) = at.notation else {
         return Err(too_deep(at));
     };
@@ -369,7 +449,10 @@ fn body<'a>(
     word: Token<'a>,
     components: &'a [Component<'a, TypeNotation<'a>>],
     depth: usize,
-) -> Result<Body<'a>, Stop> {
+) -> Result<Body<'a>, Stop>
+    ensures continues { Continues r.old r.new }
+    ensures body { IfOk result (IsBody (context_of r.new) «module» word.entry components.now) }
+{
     let written = written_parts(r.alloc, r.scope, module, components, MAX_DEPTH)?;
     let parts = parts(r, module, &written, depth)?;
     let extension = extension_of(r, module, &written);
@@ -383,13 +466,16 @@ fn parts<'a>(
     module: usize,
     written: &WrittenParts<'a>,
     depth: usize,
-) -> Result<Vec<Part<'a>>, Stop> {
+) -> Result<Vec<Part<'a>>, Stop>
+    ensures continues { Continues r.old r.new }
+    ensures parts { IfOk result (λ parts. ArePartsOf (context_of r.new) «module» written.now.parts.items parts.items) }
+{
     let sources = written.parts.as_slice();
     let numbers = numbers_of(r, module, sources)?;
     let mut parts = Vec::new(r.alloc);
-    for (index, source) in sources.iter().enumerate() {
+    for index in 0..sources.len() {
         let number = number_of_part(numbers.as_slice(), index);
-        let part = part(r, *source, number, depth)?;
+        let part = part(r, sources[index], number, depth)?;
         parts.push(part)?;
     }
     Ok(parts)
@@ -412,7 +498,10 @@ fn part<'a>(
     source: WrittenPart<'a>,
     number: Option<usize>,
     depth: usize,
-) -> Result<Part<'a>, Stop> {
+) -> Result<Part<'a>, Stop>
+    ensures continues { Continues r.old r.new }
+    ensures part { IfOk result (IsPartOf (context_of r.new) source.entry number) }
+{
     r.work.path.push(source.name.text)?;
     let at = TypeAt {
         module: source.module,
