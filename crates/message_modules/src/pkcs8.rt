@@ -1,10 +1,10 @@
 //! The lines of `modules/PKCS-8.asn1`. `ci/embed_modules.py` writes this file.
 
 /// The lines.
-pub static PKCS8_LINES: [&str; 37] = [
+pub static PKCS8_LINES: [&str; 43] = [
     "PKCS-8 { iso(1) member-body(2) us(840) rsadsi(113549) pkcs(1) pkcs-8(8) modules(1) pkcs-8(1) }",
     "",
-    "-- private keys (RFC 5958), which hold those of RFC 5208",
+    "-- private keys (RFC 5208, and RFC 5958 in place of it)",
     "",
     "DEFINITIONS IMPLICIT TAGS ::=",
     "",
@@ -15,6 +15,12 @@ pub static PKCS8_LINES: [&str; 37] = [
     "        FROM PKIX1Explicit88 { iso(1) identified-organization(3) dod(6) internet(1) security(5) mechanisms(5) pkix(7) id-mod(0)",
     "            id-pkix1-explicit(18) };",
     "",
+    "PrivateKeyInfo ::= SEQUENCE {",
+    "    version              INTEGER { v1(0) } (v1, ...),",
+    "    privateKeyAlgorithm  PrivateKeyAlgorithmIdentifier,",
+    "    privateKey           PrivateKey,",
+    "    attributes           [0] Attributes OPTIONAL }",
+    "",
     "OneAsymmetricKey ::= SEQUENCE {",
     "    version              Version,",
     "    privateKeyAlgorithm  PrivateKeyAlgorithmIdentifier,",
@@ -24,7 +30,7 @@ pub static PKCS8_LINES: [&str; 37] = [
     "    [[2: publicKey       [1] PublicKey OPTIONAL ]],",
     "    ... }",
     "",
-    "Version ::= INTEGER { v1(0), v2(1) } (v1 | v2, ...)",
+    "Version ::= INTEGER { v1(0), v2(1) } (v1, ..., v2)",
     "",
     "PrivateKeyAlgorithmIdentifier ::= AlgorithmIdentifier",
     "",

@@ -1,57 +1,53 @@
-//! Private keys (RFC 5208, 5).
+//! `PrivateKeyInfo` of the module PKCS-8.
 //!
 //! ```text
 //! PrivateKeyInfo ::= SEQUENCE {
-//!     version              Version,
-//!     privateKeyAlgorithm  AlgorithmIdentifier,
-//!     privateKey           OCTET STRING,
-//!     attributes           [0] IMPLICIT Attributes OPTIONAL }
-//!
-//! Version ::= INTEGER { v1(0) }
-//!
-//! Attributes ::= SET OF Attribute
+//!     version              INTEGER { v1(0) } (v1, ...),
+//!     privateKeyAlgorithm  PrivateKeyAlgorithmIdentifier,
+//!     privateKey           PrivateKey,
+//!     attributes           [0] Attributes OPTIONAL }
 //! ```
 ghost use Rattle.std.specs.Prelude.{◌≡◌, ◌↔◌, IsTrue, refl};
 ghost use Rattle.std.proofs.Common.{arith};
-ghost use Rattle.yasna_notation.specs.Laws.{represented_lawful, element_non_empty};
-ghost use Rattle.yasna_notation.specs.Making.{in_sequence, in_set_of, part, optional_part, in_implicit, at_most};
+ghost use Rattle.yasna_notation.specs.Laws.{element_non_empty, represented_lawful};
+ghost use Rattle.yasna_notation.specs.Making.{in_implicit, in_sequence, optional_part, part};
 ghost use Rattle.yasna_notation.specs.Notation.{represented_by};
 ghost use Rattle.yasna_notation.specs.Parts.{no_parts};
-ghost use Rattle.yasna_notation.specs.contracts.simple.U64Notation.TheImpl.Laws.{lawful-law as number};
-ghost use Rattle.yasna_notation.specs.contracts.strings.VecU8Notation.TheImpl.Laws.{lawful-law as octets};
-ghost use Rattle.x509.specs.contracts.algorithm.AlgorithmIdentifierNotation.TheImpl.Laws.{lawful-law as algorithm};
-ghost use Rattle.x509.specs.contracts.attribute.AttributeNotation.TheImpl.Laws.{lawful-law as attribute};
+ghost use Rattle.yasna_notation.specs.contracts.simple.BigIntegerNotation.TheImpl.Laws.{lawful-law as big_law};
+ghost use Rattle.yasna_notation.specs.contracts.strings.VecU8Notation.TheImpl.Laws.{lawful-law as octets_law};
+ghost use Rattle.pkcs8.specs.contracts.attributes.AttributesNotation.TheImpl.Laws.{lawful-law as attributes_law};
+ghost use Rattle.x509.specs.contracts.algorithm.AlgorithmIdentifierNotation.TheImpl.Laws.{lawful-law as x509_algorithm_law};
 
-use x509::{AlgorithmIdentifier, Attribute};
-use yasna::tags::TAG_SEQUENCE;
+use crate::attributes::Attributes;
+use x509::AlgorithmIdentifier;
 use yasna::{ASN1Result, BERMode, BERReader, DERWriter, PrependBuffer, Tag};
 use yasna_notation::{
-    AtMost, Bounded, Context, Implicit, Message, Notation, Optional, Represents, Sequence, SetOf,
-    read_as,
+    BigInteger, Context, Implicit, Message, Notation, Optional, Represents, Sequence, read_as,
 };
 use yasna_notation_validity::{Checked, accepts_fields};
 
-type Version = Bounded<u64, AtMost<0>>;
-
-type Attributes = Optional<Implicit<Context<0>, SetOf<Attribute>>>;
-
-type Parts = (Version, (AlgorithmIdentifier, (Vec<u8>, (Attributes, ()))));
-
-type Fields = (
-    u64,
-    (AlgorithmIdentifier, (Vec<u8>, (Option<Vec<Attribute>>, ()))),
+type Parts = (
+    BigInteger,
+    (
+        AlgorithmIdentifier,
+        (Vec<u8>, (Optional<Implicit<Context<0>, Attributes>>, ())),
+    ),
 );
 
-/// A private key.
+type Fields = (
+    (Vec<u8>, bool),
+    (AlgorithmIdentifier, (Vec<u8>, (Option<Attributes>, ()))),
+);
+
+type Notated = Sequence<Parts>;
+
+/// `PrivateKeyInfo`.
 #[derive(Drop)]
 pub struct PrivateKeyInfo {
-    /// 0, for v1.
-    pub version: u64,
-    /// The algorithm that the key is for.
+    pub version: (Vec<u8>, bool),
     pub private_key_algorithm: AlgorithmIdentifier,
-    /// The octets that hold the key, as its algorithm says.
     pub private_key: Vec<u8>,
-    pub attributes: Option<Vec<Attribute>>,
+    pub attributes: Option<Attributes>,
 }
 
 impl Represents<Fields> for PrivateKeyInfo {
@@ -74,14 +70,14 @@ impl Notation for PrivateKeyInfo {
 
     type Inner = ();
 
-    ghost means = { represented_by ⟦<PrivateKeyInfo as Represents<Fields>>⟧.value_of ⟦<Sequence<Parts> as Notation>⟧.means };
+    ghost means = { represented_by ⟦<PrivateKeyInfo as Represents<Fields>>⟧.value_of ⟦<Notated as Notation>⟧.means };
 
     fn has_tag(tag: Tag) -> bool {
-        tag == TAG_SEQUENCE
+        <Notated as Notation>::has_tag(tag)
     }
 
     fn read(reader: BERReader) -> ASN1Result<PrivateKeyInfo> {
-        read_as::<Sequence<Parts>, PrivateKeyInfo>(reader)
+        read_as::<Notated, PrivateKeyInfo>(reader)
     }
 
     fn write(value: &PrivateKeyInfo, writer: DERWriter<'_>) -> ASN1Result<()> {
@@ -129,9 +125,9 @@ impl Notation for PrivateKeyInfo {
         )
     }
 
-    ghost lawful = { λ _. represented_lawful ⟦<PrivateKeyInfo as Represents<Fields>>⟧.value_of
-        (in_sequence (part (at_most 0 (number refl)).own (part (algorithm refl).own (part (octets refl).own
-        (optional_part refl (in_implicit 0 (omega arith) (in_set_of (attribute refl).own)).own no_parts))))) };
+    ghost lawful = { λ _. represented_lawful ⟦<PrivateKeyInfo as Represents<Fields>>⟧.value_of (in_sequence
+        (part (big_law refl).own (part (x509_algorithm_law refl).own (part (octets_law refl).own (optional_part refl
+        (in_implicit 0 (omega arith) (attributes_law refl)).own no_parts))))) };
 
     ghost non_empty = { λ u m v. element_non_empty _ _ _ _ };
 }

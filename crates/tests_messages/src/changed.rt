@@ -104,12 +104,14 @@ fn wrong_certificate(alloc: Global) -> Option<&'static str> {
     None
 }
 
-// Whether a key of this version can be written.
-fn is_written_key(alloc: Global, version: u64) -> ASN1Result<bool> {
+// Whether a key can be written, whose version has these octets and this sign.
+fn is_written_key(alloc: Global, octets: &[u8], is_positive: bool) -> ASN1Result<bool> {
     let bytes = bytes_of(alloc, KEY)?;
     let encoded: Encoded<PrivateKeyInfo> = decode_der(alloc, bytes.as_slice())?;
     let mut key = encoded.into_value();
-    key.version = version;
+    let mut number = Vec::new(alloc);
+    number.extend_from_slice(octets)?;
+    key.version = (number, is_positive);
     is_written(alloc, key)
 }
 
@@ -125,8 +127,19 @@ fn changed_messages_are_tested(rt: HostRuntime) {
     let alloc = rt.alloc();
     finds_none(&rt, wrong_certificate(alloc));
     let rows = [
-        ("a key", is_written_key(alloc, 0) == Ok(true)),
-        ("a key of v2", is_written_key(alloc, 1) == Ok(false)),
+        ("a key", is_written_key(alloc, &[0], true) == Ok(true)),
+        (
+            "a key of a later version",
+            is_written_key(alloc, &[1], true) == Ok(true),
+        ),
+        (
+            "a key with a version of no octets",
+            is_written_key(alloc, &[], true) == Ok(false),
+        ),
+        (
+            "a key with a version of the wrong sign",
+            is_written_key(alloc, &[1], false) == Ok(false),
+        ),
         (
             "an address",
             is_written_address(alloc, &[127, 0, 0, 1]) == Ok(true),

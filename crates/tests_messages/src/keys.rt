@@ -37,9 +37,20 @@ const WITH_TWO_KEYS: &str =
     301d060a2a864886f70d01090914310f0c0d437572646c652043686169727381210019bf44096984cdfe8541bac167dc3b96\
     c85086aa30b6b6cb0c5c38ad703166e181020055";
 
-// ED25519 with the number 2 in place of its version 0.
+// ED25519 with the number 2 in place of its version 0. The module leaves such numbers to later versions.
 const VERSION_3: &str =
     "302e020102300506032b6570042204209836907d8d3657a5d2de93c7dd419d0b2a93218640545f099ced376f6f107f13";
+
+// ED25519 with a version of no octets.
+const NO_VERSION: &str =
+    "302d0200300506032b6570042204209836907d8d3657a5d2de93c7dd419d0b2a93218640545f099ced376f6f107f13";
+
+// ED25519 with a version of one octet more than its shortest form.
+const LONGER_VERSION: &str =
+    "302f02020000300506032b6570042204209836907d8d3657a5d2de93c7dd419d0b2a93218640545f099ced376f6f107f13";
+
+// A key that is encrypted with a password, made by hand.
+const ENCRYPTED: &str = "3017300f06092a864886f70d01050d300204000404deadbeef";
 
 // `openssl cms -sign -keyid -nosmimecap -nodetach -nocerts -binary -outform DER`, with a key on P-256.
 const SIGNED: &str =
@@ -97,7 +108,7 @@ const WITH_PUBLIC_KEY_IN_CER: &str =
     8541bac167dc3b96c85086aa30b6b6cb0c5c38ad703166e10000";
 
 // A key with its public key is none of the older type; where contents were streamed, BER alone reads them.
-static ROWS: [Row; 30] = [
+static ROWS: [Row; 36] = [
     (
         Kind::PrivateKeyInfo,
         Claim::IsEncoding,
@@ -151,9 +162,45 @@ static ROWS: [Row; 30] = [
     ),
     (
         Kind::OneAsymmetricKey,
-        Claim::IsInvalid,
+        Claim::IsEncoding,
         "VERSION_3",
         VERSION_3,
+    ),
+    (
+        Kind::PrivateKeyInfo,
+        Claim::IsEncoding,
+        "VERSION_3, of the older type",
+        VERSION_3,
+    ),
+    (
+        Kind::OneAsymmetricKey,
+        Claim::IsInvalid,
+        "NO_VERSION",
+        NO_VERSION,
+    ),
+    (
+        Kind::PrivateKeyInfo,
+        Claim::IsInvalid,
+        "NO_VERSION, of the older type",
+        NO_VERSION,
+    ),
+    (
+        Kind::OneAsymmetricKey,
+        Claim::IsInvalid,
+        "LONGER_VERSION",
+        LONGER_VERSION,
+    ),
+    (
+        Kind::EncryptedPrivateKeyInfo,
+        Claim::IsEncoding,
+        "ENCRYPTED",
+        ENCRYPTED,
+    ),
+    (
+        Kind::EncryptedPrivateKeyInfo,
+        Claim::IsNoEncoding,
+        "ED25519 isn't encrypted",
+        ED25519,
     ),
     (
         Kind::OneAsymmetricKey,
@@ -277,10 +324,17 @@ impl Looks for Encoded<OneAsymmetricKey> {
             return false;
         }
         match &self.value.public_key {
-            Some((octets, bits)) => self.value.version == 1 && octets.len() == 32 && *bits == 256,
+            Some((octets, bits)) => {
+                is_v2(&self.value.version) && octets.len() == 32 && *bits == 256
+            }
             None => false,
         }
     }
+}
+
+// Whether the number is that of the version with a public key.
+fn is_v2(version: &(Vec<u8>, bool)) -> bool {
+    version.0.as_slice() == b"\x01".as_slice() && version.1
 }
 
 impl Looks for Encoded<SignedData> {

@@ -12,7 +12,7 @@ use cms::{ContentInfo, EnvelopedData, SignedData};
 use ec_keys::EcPrivateKey;
 use ldap::{Filter, LdapMessage};
 use ocsp::{BasicOcspResponse, OcspRequest, OcspResponse};
-use pkcs8::{OneAsymmetricKey, PrivateKeyInfo};
+use pkcs8::{EncryptedPrivateKeyInfo, OneAsymmetricKey, PrivateKeyInfo};
 use pkcs10::CertificationRequest;
 use rsa_keys::{RsaPrivateKey, RsaPublicKey};
 use snmp::{v1, v2c};
@@ -43,6 +43,7 @@ pub enum Kind {
     SignedList,
     PrivateKeyInfo,
     OneAsymmetricKey,
+    EncryptedPrivateKeyInfo,
     CertificationRequest,
     RsaPublicKey,
     RsaPrivateKey,
@@ -92,6 +93,9 @@ fn is_so(alloc: Global, kind: Kind, bytes: &[u8], claim: Claim) -> bool {
         Kind::SignedList => is_signed(alloc, bytes, claim, true),
         Kind::PrivateKeyInfo => holds::<Encoded<PrivateKeyInfo>>(alloc, bytes, claim),
         Kind::OneAsymmetricKey => holds_or_says::<Encoded<OneAsymmetricKey>>(alloc, bytes, claim),
+        Kind::EncryptedPrivateKeyInfo => holds::<Encoded<EncryptedPrivateKeyInfo>>(
+            alloc, bytes, claim,
+        ),
         Kind::CertificationRequest => holds::<Encoded<CertificationRequest>>(alloc, bytes, claim),
         Kind::RsaPublicKey => holds::<Encoded<RsaPublicKey>>(alloc, bytes, claim),
         Kind::RsaPrivateKey => match claim {

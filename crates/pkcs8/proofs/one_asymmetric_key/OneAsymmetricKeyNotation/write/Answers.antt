@@ -1,5 +1,0 @@
-use Rattle.std.proofs.Common.{rules}
-use Rattle.pkcs8.proofs.one_asymmetric_key.OneAsymmetricKeyNotation.write.Goals as goal
-
-pub returns : goal.returns
-returns c = search rules
