@@ -1,13 +1,13 @@
 -- Which ambiguities are met.
-use Rattle.std.proofs.Common.{◌≡◌, ◌↔◌, ℕ, zero, suc, ◌-◌, ◌≤◌, List, [], ◌∷◌, ◌++◌, Ok, Err, None, inl, inr, refl, sym, ap, ◌∙◌, subst, append-nil, arith}
+use Rattle.std.proofs.Common.{◌≡◌, ◌↔◌, ℕ, zero, suc, ◌-◌, ◌≤◌, List, [], ◌∷◌, ◌++◌, Ok, Err, None, inl, inr, refl, sym, ap, ◌∙◌, subst, append-nil, append_assoc, arith}
 use Rattle.std.specs.Prelude.{Option, Result, IfOk}
-use Rattle.std.specs.List.{AllByRecursion}
+use Rattle.std.specs.List.{AllByRecursion, concat}
 use Rattle.yasna_base.specs.Bits.{bits_tag}
 use Rattle.yasna_base.specs.Header.{ContentsEnd, definite_end, OpensAt, EndsBefore}
 use Rattle.yasna_base.specs.Identifier.{BeginsWithTag}
 use Rattle.yasna_base.specs.Octets.{octets_tag}
 use Rattle.yasna_base.specs.Pieces.{Pieces}
-use Rattle.yasna_base.specs.Set.{SetPart, set_tag}
+use Rattle.yasna_base.specs.Set.{SetPart, parts_bytes, set_tag}
 use Rattle.yasna_base.specs.declared.mode.BERMode.{BERMode}
 use Rattle.yasna_base.specs.declared.mode.BERMode.TheVariants.{Ber}
 use Rattle.yasna_base.specs.declared.tag.PCBit.TheVariants.{Primitive, Constructed}
@@ -15,7 +15,7 @@ use Rattle.yasna_base.specs.declared.tag.Tag.{Tag}
 use Rattle.yasna_base.proofs.Header.{opens_begins, header_of, end_after}
 use Rattle.asn1der_convert.specs.Ambiguity.{MayBeSegments, IsCertain, IsSureBranch, IsSure, Meets, Notes, first_place, EnclosesParts, MeetsAmbiguities, MeetsAt, MeetsTo, AreTheAmbiguities}
 use Rattle.asn1der_convert.specs.ContentsClass.{IsOfClass}
-use Rattle.asn1der_convert.specs.Parts.{set_parts, TakesPart, TakesPartsTo, ArePutInOrder, sorted, as_they_were}
+use Rattle.asn1der_convert.specs.Parts.{TakesPart, TakesPartsTo, AppendsPart, AppendsParts, ArePutInOrder, sorted, as_they_were}
 use Rattle.asn1der_convert.specs.SetOrder.{IsOrderKnown, InOrder}
 use Rattle.asn1der_convert.specs.Tags.{IsOtherTag, IsOtherConstructed}
 use Rattle.asn1der_convert.specs.Tree.{Branch, boolean, bits, string, primitive, set_of, constructed, Tree, branch_tag, tree_parts, HasBranch, HasTree}
@@ -24,10 +24,9 @@ use Rattle.asn1der_convert.specs.declared.ambiguity.Ambiguity.{Ambiguity}
 use Rattle.asn1der_convert.specs.declared.ambiguity.Ambiguity.TheVariants.{Segments, ImplicitSetOf, Order}
 use Rattle.asn1der_convert.specs.declared.contents_class.ContentsClass.{ContentsClass}
 use Rattle.asn1der_convert.specs.declared.contents_class.ContentsClass.TheVariants.{Other}
-use Rattle.asn1der_convert.specs.declared.der_element.DerElement.{DerElement}
 use Rattle.asn1der_convert.specs.declared.set_order.SetOrder.TheVariants.{Octets}
 use Rattle.asn1der_convert.proofs.Exact.{branch_class, trees_end}
-use Rattle.asn1der_convert.proofs.Parts.{no_parts, more_parts, parts_labels, Reached, reached_none, reached_more}
+use Rattle.asn1der_convert.proofs.Parts.{no_parts, more_parts, parts_labels, joined_more, Reached, reached_none, reached_more}
 use Rattle.asn1der_convert.proofs.Rejections.{Root, root_tag, root_kind}
 use Rattle.asn1der_convert.proofs.SetOrder.{by_octets_in_order}
 
@@ -37,23 +36,18 @@ each_kind P s i o Segments = s
 each_kind P s i o ImplicitSetOf = i
 each_kind P s i o Order = o
 
--- elements with one tag are parts with that tag
-tags_of : (t : Tag) (ps : List DerElement) → AllByRecursion (λ (p : DerElement). p.tag ≡ t) ps ↔ AllByRecursion (λ (p : SetPart). p.tag ≡ t) (set_parts ps)
-tags_of t [] = (λ a. tt, λ a. tt)
-tags_of t (p ∷ ps) = let r = tags_of t ps in (λ a. (a.0, r.0 a.1), λ a. (a.0, r.1 a.1))
-
 -- OCTET STRINGs may be segments
-pub segments_octets : (ps : List DerElement) (P : Type 0) → P → P ↔ AllByRecursion (λ (p : DerElement). p.tag ≡ octets_tag) ps → P ↔ MayBeSegments (set_parts ps)
-segments_octets ps P holds h = (λ i. inl ((tags_of octets_tag ps).0 (h.0 i)), λ s. holds)
+pub segments_octets : (ps : List SetPart) (P : Type 0) → P → P ↔ AllByRecursion (λ (p : SetPart). p.tag ≡ octets_tag) ps → P ↔ MayBeSegments ps
+segments_octets ps P holds h = (λ i. inl (h.0 i), λ s. holds)
 
 -- other elements, where they are BIT STRINGs
-pub segments_bits : (ps : List DerElement) (P Q : Type 0) → (P → ⊥) → P ↔ AllByRecursion (λ (p : DerElement). p.tag ≡ octets_tag) ps →
-    Q ↔ AllByRecursion (λ (p : DerElement). p.tag ≡ bits_tag) ps → Q ↔ MayBeSegments (set_parts ps)
-segments_bits ps P Q not_octets g h = (λ i. inr ((tags_of bits_tag ps).0 (h.0 i)), go)
+pub segments_bits : (ps : List SetPart) (P Q : Type 0) → (P → ⊥) → P ↔ AllByRecursion (λ (p : SetPart). p.tag ≡ octets_tag) ps →
+    Q ↔ AllByRecursion (λ (p : SetPart). p.tag ≡ bits_tag) ps → Q ↔ MayBeSegments ps
+segments_bits ps P Q not_octets g h = (λ i. inr (h.0 i), go)
   where
-    go : MayBeSegments (set_parts ps) → Q
-    go (inl a) = absurd (not_octets (g.1 ((tags_of octets_tag ps).1 a)))
-    go (inr a) = h.1 ((tags_of bits_tag ps).1 a)
+    go : MayBeSegments ps → Q
+    go (inl a) = absurd (not_octets (g.1 a))
+    go (inr a) = h.1 a
 
 -- nothing was met
 meets_nothing : (a : Option ℕ) (P : Type 0) → P → Meets a a P
@@ -148,8 +142,8 @@ met_around a qs k m t s d r end old mid new is opens inside here set other v b x
     go w y f g = absurd (cc)
 
 -- the elements that were taken are those that are there
-taken_trees : (k : ℕ) (m : BERMode) (d : List ℕ) (end : ContentsEnd) (ps : List DerElement) (r : List ℕ) → (x : TakesPartsTo k m d end ps r) →
-    OfAll k m d end r (λ vs. set_parts ps ≡ tree_parts k vs)
+taken_trees : (k : ℕ) (m : BERMode) (d : List ℕ) (end : ContentsEnd) (ps : List SetPart) (r : List ℕ) → (x : TakesPartsTo k m d end ps r) →
+    OfAll k m d end r (λ vs. ps ≡ tree_parts k vs)
 taken_trees k m d end ps r x vs prefix rest p e ends =
     let same = trees_end k m x.parts.trees vs x.prefix prefix x.rest rest x.parts.read p (end_after end x.rest r x.ends) (end_after end rest r ends)
     (sym x.joined ∙ e) in
@@ -172,8 +166,8 @@ order_other t ps qs (sorted s known e) other = absurd (other s known)
 order_other t ps qs (as_they_were _ e) other = e
 
 -- the ambiguities of a constructed element
-around_meets : (k : ℕ) (m : BERMode) (t : Tag) (s d r : List ℕ) (end : ContentsEnd) (ps : List DerElement) (p : DerElement) (old mid new : Ambiguities) →
-    IsOtherTag t → OpensAt m t Constructed s d end → TakesPartsTo k m d end ps r → MeetsTo k m d end r old mid → EnclosesParts t (set_parts ps) p mid new →
+around_meets : (k : ℕ) (m : BERMode) (t : Tag) (s d r : List ℕ) (end : ContentsEnd) (ps : List SetPart) (p : SetPart) (old mid new : Ambiguities) →
+    IsOtherTag t → OpensAt m t Constructed s d end → TakesPartsTo k m d end ps r → MeetsTo k m d end r old mid → EnclosesParts t ps p mid new →
     MeetsAt (suc k) m s r old new
 around_meets k m t s d r end ps p old mid new is opens x inside around v b y e a =
     let same = taken_trees k m d end ps r x in
@@ -181,20 +175,20 @@ around_meets k m t s d r end ps p old mid new is opens x inside around v b y e a
     let one = met_around a qs k m t s d r end (first_place a old) (first_place a mid) (first_place a new) is opens
     (λ vs f z q g h. inside vs f z q g h a) (around.met a)
     (λ vs f z q g h i known.
-    certain_set a t qs i (order_set t (set_parts ps) qs around.part.order i (subst IsOrderKnown (sym (same vs f z q g h)) known)))
+    certain_set a t qs i (order_set t ps qs around.part.order i (subst IsOrderKnown (sym (same vs f z q g h)) known)))
     (λ vs f z q g h unknown.
-    order_other t (set_parts ps) qs around.part.order (λ i known. unknown i (subst IsOrderKnown (same vs f z q g h) known)) ∙ same vs f z q g h)
+    order_other t ps qs around.part.order (λ i known. unknown i (subst IsOrderKnown (same vs f z q g h) known)) ∙ same vs f z q g h)
     v b y e in
     meets_as (first_place a old) (first_place a new) _ _ (λ z. (z, tt)) (λ z. z.0) one
 
 -- elements were taken, and their ambiguities met
-abbrev pub Inside : ℕ → List DerElement → List ℕ → Ambiguities → Ambiguities → BERMode → List ℕ → ContentsEnd → Type 0
+abbrev pub Inside : ℕ → List SetPart → List ℕ → Ambiguities → Ambiguities → BERMode → List ℕ → ContentsEnd → Type 0
 Inside k ps r old mid m d end = TakesPartsTo k m d end ps r × MeetsTo k m d end r old mid
 
 -- as `constructed_part` of Parts, with the ambiguities, where the contents are read at their own place
-pub constructed_meets : (n k : ℕ) (m m' : BERMode) (t : Tag) (s d d' r : List ℕ) (end end' : ContentsEnd) (ps : List DerElement) (p : DerElement) (old mid new : Ambiguities) → m' ≡ m →
+pub constructed_meets : (n k : ℕ) (m m' : BERMode) (t : Tag) (s d d' r : List ℕ) (end end' : ContentsEnd) (ps : List SetPart) (p : SetPart) (old mid new : Ambiguities) → m' ≡ m →
     1 ≤ n → k ≡ n - 1 → d' ≡ d → end' ≡ end → IsOtherConstructed t → OpensAt m t Constructed s d end → TakesPartsTo k m' d' end' ps r →
-    MeetsTo k m' d' end' r old mid → EnclosesParts t (set_parts ps) p mid new → MeetsAt n m s r old new
+    MeetsTo k m' d' end' r old mid → EnclosesParts t ps p mid new → MeetsAt n m s r old new
 constructed_meets n k m m' t s d d' r end end' ps p old mid new f level less g h is opens x inside around =
     let one = subst (λ z. Inside k ps r old mid z d' end') f (x, inside) in
     let two = subst (λ z. Inside k ps r old mid m z end') g one in
@@ -222,18 +216,18 @@ more_met n vs v x y z f g a =
     meets_both (first_place a x) (first_place a y) (first_place a z) _ _ _ (all_end (IsSure a n) vs v) (all_parts (IsSure a n) vs v) (f a) (g a)
 
 -- the elements from s to r were read, and their ambiguities were met
-pub record Walked (n : ℕ) (m : BERMode) (s : List ℕ) (ps : List DerElement) (r : List ℕ) (old new : Ambiguities) : Type 0 where
+pub record Walked (n : ℕ) (m : BERMode) (s : List ℕ) (ps : List SetPart) (r : List ℕ) (old new : Ambiguities) : Type 0 where
   pub reached : Reached n m s ps r
   pub met : MeetsAmbiguities n reached.parts.trees old new
 
-pub walked_none : (n : ℕ) (m : BERMode) (s : List ℕ) (ps : List DerElement) (d : Ambiguities) → ps ≡ [] → Walked n m s ps s d d
+pub walked_none : (n : ℕ) (m : BERMode) (s : List ℕ) (ps : List SetPart) (d : Ambiguities) → ps ≡ [] → Walked n m s ps s d d
 unfolding no_parts reached_none
-walked_none n m s ps d e = subst (λ (z : List DerElement). Walked n m s z s d d) (sym e) (record {
+walked_none n m s ps d e = subst (λ (z : List SetPart). Walked n m s z s d d) (sym e) (record {
   reached = reached_none n m s;
   met = λ a. meets_nothing (first_place a d) _ tt;
 })
 
-walked_more : (n : ℕ) (m : BERMode) (s r q : List ℕ) (ps : List DerElement) (p : DerElement) (a b c : Ambiguities) → Walked n m s ps r a b → TakesPart n m r p q →
+walked_more : (n : ℕ) (m : BERMode) (s r q : List ℕ) (ps : List SetPart) (p : SetPart) (a b c : Ambiguities) → Walked n m s ps r a b → TakesPart n m r p q →
     MeetsAt n m r q b c → Walked n m s (ps ++ (p ∷ [])) q a c
 unfolding more_parts reached_more
 walked_more n m s r q ps p a b c x y z = record {
@@ -242,20 +236,50 @@ walked_more n m s r q ps p a b c x y z = record {
 }
 
 -- an element was taken, and its ambiguities met
-abbrev Next : List ℕ → DerElement → List ℕ → Ambiguities → Ambiguities → ℕ → BERMode → Type 0
+abbrev Next : List ℕ → SetPart → List ℕ → Ambiguities → Ambiguities → ℕ → BERMode → Type 0
 Next y p q b c n m = TakesPart n m y p q × MeetsAt n m y q b c
 
 -- the walk went one element further
-pub walked_next : (n k : ℕ) (m o : BERMode) (s y q q' : List ℕ) (ps qs : List DerElement) (p : DerElement) (a b c : Ambiguities) → k ≡ n → o ≡ m → Walked n m s ps y a b →
+pub walked_next : (n k : ℕ) (m o : BERMode) (s y q q' : List ℕ) (ps qs : List SetPart) (p : SetPart) (a b c : Ambiguities) → k ≡ n → o ≡ m → Walked n m s ps y a b →
     TakesPart k o y p q → MeetsAt k o y q b c → qs ≡ ps ++ (p ∷ []) → q' ≡ q → Walked n m s qs q' a c
 walked_next n k m o s y q q' ps qs p a b c e f x t z g h =
     let one = subst (λ j. Next y p q b c j o) e (t, z) in
     let two = subst (λ i. Next y p q b c n i) f one in
     let three = walked_more n m s y q ps p a b c x two.0 two.1 in
-    subst (λ i. Walked n m s qs i a c) (sym h) (subst (λ (i : List DerElement). Walked n m s i q a c) (sym g) three)
+    subst (λ i. Walked n m s qs i a c) (sym h) (subst (λ (i : List SetPart). Walked n m s i q a c) (sym g) three)
+
+-- elements from s to r were read and appended to an output, and their ambiguities were met
+pub record Written (n : ℕ) (m : BERMode) (s r out out' : List ℕ) (old new : Ambiguities) : Type 0 where
+  pub parts : List SetPart
+  pub walked : Walked n m s parts r old new
+  pub added : out' ≡ out ++ concat (parts_bytes parts)
+
+pub written_none : (n : ℕ) (m : BERMode) (s out : List ℕ) (d : Ambiguities) → Written n m s s out out d d
+written_none n m s out d = record { parts = []; walked = walked_none n m s [] d refl; added = sym (append-nil out) }
+
+-- one more was
+pub written_next : (n k : ℕ) (m o : BERMode) (s y q q' out mid out' : List ℕ) (a b c : Ambiguities) → k ≡ n → o ≡ m → Written n m s y out mid a b →
+    AppendsPart k o y q mid out' → MeetsAt k o y q b c → q' ≡ q → Written n m s q' out out' a c
+written_next n k m o s y q q' out mid out' a b c e f w x met h = record {
+  parts = w.parts ++ (x.part ∷ []);
+  walked = walked_next n k m o s y q q' w.parts (w.parts ++ (x.part ∷ [])) x.part a b c e f w.walked x.taken met refl h;
+  added = x.added ∙ ap (λ z. z ++ x.part.bytes) w.added ∙ append_assoc out (concat (parts_bytes w.parts)) x.part.bytes ∙
+      ap (λ z. out ++ z) (sym (joined_more w.parts x.part));
+}
+
+-- up to the end of contents
+pub written_end : (n : ℕ) (m : BERMode) (s y r out out' : List ℕ) (end : ContentsEnd) (a b : Ambiguities) → Written n m s y out out' a b → EndsBefore end y r →
+    AppendsParts n m s end r out out'
+written_end n m s y r out out' end a b w ends =
+    let reached = w.walked.reached in
+    record {
+      parts = w.parts;
+      taken = record { prefix = reached.prefix; rest = y; joined = reached.joined; ends = ends; parts = reached.parts };
+      added = w.added;
+    }
 
 -- at the end of contents the ambiguities of all that is before it were met
-pub walked_end : (n : ℕ) (m : BERMode) (s y r : List ℕ) (end : ContentsEnd) (ps : List DerElement) (a b : Ambiguities) → Walked n m s ps y a b → EndsBefore end y r →
+pub walked_end : (n : ℕ) (m : BERMode) (s y r : List ℕ) (end : ContentsEnd) (ps : List SetPart) (a b : Ambiguities) → Walked n m s ps y a b → EndsBefore end y r →
     MeetsTo n m s end r a b
 walked_end n m s y r end ps a b x ends vs prefix rest p e stops =
     let w = x.reached in
@@ -263,7 +287,7 @@ walked_end n m s y r end ps a b x ends vs prefix rest p e stops =
     subst (λ us. MeetsAmbiguities n us a b) same x.met
 
 -- where nothing was ambiguous before, the ambiguities are those of the input
-pub are_the_ambiguities : (s r : List ℕ) (ps : List DerElement) (x y : Ambiguities) → TakesPartsTo 101 Ber s (definite_end []) ps r →
+pub are_the_ambiguities : (s r : List ℕ) (ps : List SetPart) (x y : Ambiguities) → TakesPartsTo 101 Ber s (definite_end []) ps r →
     MeetsTo 101 Ber s (definite_end []) r x y → ((a : Ambiguity) → first_place a x ≡ None) → AreTheAmbiguities s y
 are_the_ambiguities s r ps x y taken met none a vs p =
     let z = met vs s [] p (sym (append-nil s)) (refl, taken.ends.1) a in

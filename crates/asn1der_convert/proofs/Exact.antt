@@ -208,7 +208,7 @@ module _ {A : Type 0} (R : A → List ℕ → Type 0) (parts : List A → List S
   pub branch_not_end : (v : Branch A) (b : List ℕ) → HasBranch R parts n m v b → branch_tag v ≡ end_tag → ⊥
   branch_not_end v b x = kind_not_end v (branch_tag v) (branch_is_of_class v b x)
 
-  branch_small : (v : Branch A) (b : List ℕ) → HasBranch R parts n m v b → (branch_tag v).tag_number < 2 ^ 64
+  pub branch_small : (v : Branch A) (b : List ℕ) → HasBranch R parts n m v b → (branch_tag v).tag_number < 2 ^ 64
   branch_small (boolean v) b x = omega arith
   branch_small (bits v) b x = omega arith
   branch_small (string t v) b x = (string_small t x.0).1

@@ -1,8 +1,12 @@
+pub mod Merging
+pub mod Rows
 pub mod SetOrder
+pub mod Weaving
 pub mod Parts
 pub mod Encodings
 pub mod Raw
 pub mod Exact
+pub mod Appends
 pub mod Rejections
 pub mod Ambiguities
 pub mod Whole

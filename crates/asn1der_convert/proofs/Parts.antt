@@ -1,8 +1,8 @@
 -- Elements that were read, and those that were written for them.
-use Rattle.std.proofs.Common.{◌≡◌, ℕ, zero, suc, ◌+◌, ◌-◌, ◌*◌, ◌%◌, ◌^◌, ◌<◌, ◌≤◌, ◌↔◌, IsTrue, Bool, List, [], ◌∷◌, ◌++◌, length, map, Ok, Err, refl}
+use Rattle.std.proofs.Common.{◌≡◌, ℕ, zero, suc, ◌-◌, ◌%◌, ◌^◌, ◌<◌, ◌≤◌, Bool, List, [], ◌∷◌, ◌++◌, length, map, Ok, Err, refl}
 use Rattle.std.proofs.Common.{sym, ap, ap₂, ◌∙◌, subst, append-nil, append_assoc, length-append, arith}
 use Rattle.std.specs.Prelude.{Result, IfOk, IfErr}
-use Rattle.std.specs.List.{AllByRecursion, concat, flat_map}
+use Rattle.std.specs.List.{concat}
 use Rattle.yasna_base.specs.Bits.{BitString, IsBits, bits_tag, padded, bits_contents, bits_segmentation}
 use Rattle.yasna_base.specs.Boolean.{IsBoolean, boolean_tag, boolean_byte}
 use Rattle.yasna_base.specs.Canonical.{canonical_element}
@@ -23,21 +23,20 @@ use Rattle.yasna_bytes.specs.Prefix.{Takes}
 use Rattle.yasna_bytes.proofs.Ending.{closed}
 use Rattle.asn1_contents.specs.Contents.{HasContents}
 use Rattle.asn1_contents.specs.ContentsType.{type_with}
-use Rattle.asn1der_convert.specs.Parts.{part_tags, part_bytes, set_parts, IsPartOf, ArePartsOf, TakesPart, TakesPartsTo, ArePutInOrder, sorted, as_they_were, IsPartAround}
+use Rattle.asn1der_convert.specs.Parts.{IsPartOf, ArePartsOf, TakesPart, TakesPartsTo, ArePutInOrder, sorted, as_they_were, IsPartAround}
 use Rattle.asn1der_convert.specs.SetOrder.{IsOrderKnown}
 use Rattle.asn1der_convert.specs.Tags.{IsStringTag, IsOtherPrimitive, IsOtherConstructed}
-use Rattle.asn1der_convert.specs.Tree.{Branch, boolean, bits, string, primitive, set_of, constructed, Tree, branch_tag, tree_tag, tree_parts, HaveOneTag, HasBranch, HasTree, branch_encoding, der_encoding}
-use Rattle.asn1der_convert.specs.declared.der_element.DerElement.{DerElement}
-use Rattle.asn1der_convert.proofs.SetOrder.{same_parts, parts_of_bytes, by_octets_bytes}
+use Rattle.asn1der_convert.specs.Tree.{Branch, boolean, bits, string, primitive, set_of, constructed, Tree, branch_tag, tree_tag, tree_parts, HasBranch, HasTree, branch_encoding, der_encoding}
+use Rattle.asn1der_convert.proofs.SetOrder.{labels_of, parts_of_bytes, by_octets_bytes}
 
 -- an element around those a level further in
-branch_part : (n : ℕ) (m : BERMode) (b : List ℕ) (v : Branch (Tree n)) → HasBranch (HasTree n m) (tree_parts n) (suc n) m v b → (p : DerElement) →
-    p.tag ≡ branch_tag v → p.bytes.items ≡ branch_encoding (der_encoding n) v → IsPartOf (suc n) m b p
+branch_part : (n : ℕ) (m : BERMode) (b : List ℕ) (v : Branch (Tree n)) → HasBranch (HasTree n m) (tree_parts n) (suc n) m v b → (p : SetPart) →
+    p.tag ≡ branch_tag v → p.bytes ≡ branch_encoding (der_encoding n) v → IsPartOf (suc n) m b p
 unfolding Tree HasTree tree_tag der_encoding
 branch_part n m b v x p t f = record { tree = v; read = x; tag = t; encoding = f }
 
-part_at : (n k : ℕ) → suc k ≡ n → (m : BERMode) (b : List ℕ) (v : Branch (Tree k)) → HasBranch (HasTree k m) (tree_parts k) n m v b → (p : DerElement) →
-    p.tag ≡ branch_tag v → p.bytes.items ≡ branch_encoding (der_encoding k) v → IsPartOf n m b p
+part_at : (n k : ℕ) → suc k ≡ n → (m : BERMode) (b : List ℕ) (v : Branch (Tree k)) → HasBranch (HasTree k m) (tree_parts k) n m v b → (p : SetPart) →
+    p.tag ≡ branch_tag v → p.bytes ≡ branch_encoding (der_encoding k) v → IsPartOf n m b p
 part_at n k e m b v x p t f =
     subst (λ z. IsPartOf z m b p) e (branch_part k m b v (subst (λ z. HasBranch (HasTree k m) (tree_parts k) z m v b) (sym e) x) p t f)
 
@@ -46,8 +45,8 @@ one_less zero h = absurd (omega (arith, h))
 one_less (suc k) h = (k, refl)
 
 -- a BOOLEAN
-pub boolean_part : (n : ℕ) (m : BERMode) (s r : List ℕ) (v : Bool) (p : DerElement) (c : List ℕ) → Takes (Primitively IsBoolean boolean_tag m n) s v r →
-    p.tag ≡ boolean_tag → p.bytes.items ≡ canonical_element Der boolean_tag Primitive c → c ≡ boolean_byte v ∷ [] → TakesPart n m s p r
+pub boolean_part : (n : ℕ) (m : BERMode) (s r : List ℕ) (v : Bool) (p : SetPart) (c : List ℕ) → Takes (Primitively IsBoolean boolean_tag m n) s v r →
+    p.tag ≡ boolean_tag → p.bytes ≡ canonical_element Der boolean_tag Primitive c → c ≡ boolean_byte v ∷ [] → TakesPart n m s p r
 boolean_part n m s r v p c x t f e =
     let k = one_less n x.member.level in
     record {
@@ -57,8 +56,8 @@ boolean_part n m s r v p c x t f e =
     }
 
 -- a BIT STRING
-pub bits_part : (n : ℕ) (m : BERMode) (s r : List ℕ) (v : BitString) (p : DerElement) (c : List ℕ) → Takes (IsBits bits_tag m n) s v r →
-    p.tag ≡ bits_tag → p.bytes.items ≡ canonical_element Der bits_tag Primitive c → c ≡ bits_contents v → TakesPart n m s p r
+pub bits_part : (n : ℕ) (m : BERMode) (s r : List ℕ) (v : BitString) (p : SetPart) (c : List ℕ) → Takes (IsBits bits_tag m n) s v r →
+    p.tag ≡ bits_tag → p.bytes ≡ canonical_element Der bits_tag Primitive c → c ≡ bits_contents v → TakesPart n m s p r
 bits_part n m s r v p c x t f e =
     let k = one_less n (segmented_level bits_segmentation n m bits_tag v x.prefix x.member) in
     record {
@@ -68,8 +67,8 @@ bits_part n m s r v p c x t f e =
     }
 
 -- a string of octets o, whose contents in DER are d
-pub string_part : (n : ℕ) (m : BERMode) (t : Tag) (s r o d : List ℕ) (p : DerElement) → IsStringTag t → Takes (IsOctets t m n) s o r →
-    HasContents (type_with t) m d o → p.tag ≡ t → p.bytes.items ≡ canonical_element Der t Primitive d → TakesPart n m s p r
+pub string_part : (n : ℕ) (m : BERMode) (t : Tag) (s r o d : List ℕ) (p : SetPart) → IsStringTag t → Takes (IsOctets t m n) s o r →
+    HasContents (type_with t) m d o → p.tag ≡ t → p.bytes ≡ canonical_element Der t Primitive d → TakesPart n m s p r
 string_part n m t s r o d p h x g e f =
     let k = one_less n (segmented_level octets_segmentation n m t o x.prefix x.member) in
     record {
@@ -79,8 +78,8 @@ string_part n m t s r o d p h x g e f =
     }
 
 -- any other primitive element with the contents c, which are d in DER
-pub primitive_part : (n : ℕ) (m : BERMode) (t : Tag) (s r c d : List ℕ) (p : DerElement) → 1 ≤ n → IsOtherPrimitive t →
-    OpensAt m t Primitive s c (definite_end r) → HasContents (type_with t) m d c → p.tag ≡ t → p.bytes.items ≡ canonical_element Der t Primitive d →
+pub primitive_part : (n : ℕ) (m : BERMode) (t : Tag) (s r c d : List ℕ) (p : SetPart) → 1 ≤ n → IsOtherPrimitive t →
+    OpensAt m t Primitive s c (definite_end r) → HasContents (type_with t) m d c → p.tag ≡ t → p.bytes ≡ canonical_element Der t Primitive d →
     TakesPart n m s p r
 primitive_part n m t s r c d p level h x g e f =
     let k = one_less n level in
@@ -104,17 +103,17 @@ pub maps_end : {A B C : Type 0} (f : A → C) (g : B → C) (xs : List A) (ys : 
 maps_end f g xs ys x y e h = map_end f xs x ∙ ap₂ (λ zs z. zs ++ (z ∷ [])) e h ∙ sym (map_end g ys y)
 
 -- elements and one more
-unfoldable pub more_parts : (n : ℕ) (m : BERMode) (c b : List ℕ) (ps : List DerElement) (p : DerElement) → ArePartsOf n m c ps → IsPartOf n m b p →
+unfoldable pub more_parts : (n : ℕ) (m : BERMode) (c b : List ℕ) (ps : List SetPart) (p : SetPart) → ArePartsOf n m c ps → IsPartOf n m b p →
     ArePartsOf n m (c ++ b) (ps ++ (p ∷ []))
 more_parts n m c b ps p x y = record {
   trees = x.trees ++ (y.tree ∷ []);
   read = pieces_append x.trees (y.tree ∷ []) c b x.read (one_piece y.tree b y.read);
-  tags = maps_end (λ (q : DerElement). q.tag) (tree_tag n) ps x.trees p y.tree x.tags y.tag;
-  encodings = maps_end (λ (q : DerElement). q.bytes.items) (der_encoding n) ps x.trees p y.tree x.encodings y.encoding;
+  tags = maps_end (λ (q : SetPart). q.tag) (tree_tag n) ps x.trees p y.tree x.tags y.tag;
+  encodings = maps_end (λ (q : SetPart). q.bytes) (der_encoding n) ps x.trees p y.tree x.encodings y.encoding;
 }
 
 -- the elements from s to r were read
-pub record Reached (n : ℕ) (m : BERMode) (s : List ℕ) (ps : List DerElement) (r : List ℕ) : Type 0 where
+pub record Reached (n : ℕ) (m : BERMode) (s : List ℕ) (ps : List SetPart) (r : List ℕ) : Type 0 where
   pub prefix : List ℕ
   pub joined : s ≡ prefix ++ r
   pub parts : ArePartsOf n m prefix ps
@@ -122,7 +121,7 @@ pub record Reached (n : ℕ) (m : BERMode) (s : List ℕ) (ps : List DerElement)
 unfoldable pub reached_none : (n : ℕ) (m : BERMode) (s : List ℕ) → Reached n m s [] s
 reached_none n m s = record { prefix = []; joined = refl; parts = no_parts n m }
 
-unfoldable pub reached_more : (n : ℕ) (m : BERMode) (s r q : List ℕ) (ps : List DerElement) (p : DerElement) → Reached n m s ps r →
+unfoldable pub reached_more : (n : ℕ) (m : BERMode) (s r q : List ℕ) (ps : List SetPart) (p : SetPart) → Reached n m s ps r →
     TakesPart n m r p q → Reached n m s (ps ++ (p ∷ [])) q
 reached_more n m s r q ps p x y = record {
   prefix = x.prefix ++ y.prefix;
@@ -131,17 +130,16 @@ reached_more n m s r q ps p x y = record {
 }
 
 -- elements that were read are the parts of their trees
-pub parts_labels : (n : ℕ) (m : BERMode) (c : List ℕ) (ps : List DerElement) → (x : ArePartsOf n m c ps) → set_parts ps ≡ tree_parts n x.trees
-parts_labels n m c ps x =
-    same_parts (λ (p : DerElement). p.tag) (λ (p : DerElement). p.bytes.items) (tree_tag n) (der_encoding n) ps x.trees x.tags x.encodings
+pub parts_labels : (n : ℕ) (m : BERMode) (c : List ℕ) (ps : List SetPart) → (x : ArePartsOf n m c ps) → ps ≡ tree_parts n x.trees
+parts_labels n m c ps x = labels_of (tree_tag n) (der_encoding n) ps x.trees x.tags x.encodings
 
-around_order : (k n : ℕ) → suc k ≡ n → (t : Tag) (c b : List ℕ) (ps : List DerElement) (p : DerElement) (qs : List SetPart) → IsOtherConstructed t →
-    ArePartsOf k Ber c ps → Element Ber t Constructed c b → p.tag ≡ t → p.bytes.items ≡ canonical_element Der t Constructed (concat (parts_bytes qs)) →
-    ArePutInOrder t (set_parts ps) qs → IsPartOf n Ber b p
+around_order : (k n : ℕ) → suc k ≡ n → (t : Tag) (c b : List ℕ) (ps : List SetPart) (p : SetPart) (qs : List SetPart) → IsOtherConstructed t →
+    ArePartsOf k Ber c ps → Element Ber t Constructed c b → p.tag ≡ t → p.bytes ≡ canonical_element Der t Constructed (concat (parts_bytes qs)) →
+    ArePutInOrder t ps qs → IsPartOf n Ber b p
 around_order k n e t c b ps p qs h x y i f (sorted s o j) =
     let labels = parts_labels k Ber c ps x in
     let bytes : parts_bytes qs ≡ in_order octets_cmp (map (der_encoding k) x.trees) =
-    ap parts_bytes j ∙ by_octets_bytes (set_parts ps) ∙
+    ap parts_bytes j ∙ by_octets_bytes ps ∙
     ap (λ (zs : List SetPart). in_order octets_cmp (parts_bytes zs)) labels ∙ ap (in_order octets_cmp) (parts_of_bytes (tree_tag k) (der_encoding k) x.trees) in
     part_at n k e Ber b (set_of x.trees)
     (record {
@@ -167,8 +165,8 @@ around_order k n e t c b ps p qs h x y i f (as_they_were o j) =
     (f ∙ ap (λ z. canonical_element Der t Constructed (concat z)) bytes)
 
 -- any other constructed element, whose contents end so
-pub constructed_part : (k n : ℕ) → suc k ≡ n → (t : Tag) (s d r : List ℕ) (end : ContentsEnd) (ps : List DerElement) (p : DerElement) → IsOtherConstructed t →
-    OpensAt Ber t Constructed s d end → TakesPartsTo k Ber d end ps r → IsPartAround t (set_parts ps) p → TakesPart n Ber s p r
+pub constructed_part : (k n : ℕ) → suc k ≡ n → (t : Tag) (s d r : List ℕ) (end : ContentsEnd) (ps : List SetPart) (p : SetPart) → IsOtherConstructed t →
+    OpensAt Ber t Constructed s d end → TakesPartsTo k Ber d end ps r → IsPartAround t ps p → TakesPart n Ber s p r
 constructed_part k n e t s d r end ps p h x y z =
     let w = closed Ber t Constructed s d end x y.prefix y.rest r y.joined y.ends in
     record {
@@ -177,65 +175,20 @@ constructed_part k n e t s d r end ps p h x y z =
       part = around_order k n e t y.prefix w.bytes ps p z.inner h y.parts w.element z.tag z.bytes z.order;
     }
 
--- elements that have the tag t have one tag
-pub all_one_tag : (ps : List DerElement) (t : Tag) → AllByRecursion (λ (p : DerElement). p.tag ≡ t) ps → AllByRecursion (λ u. u ≡ t) (part_tags ps)
-all_one_tag [] t h = tt
-all_one_tag (p ∷ ps) t h = (h.0, all_one_tag ps t h.1)
+-- elements and one more, joined
+pub joined_more : (ps : List SetPart) (p : SetPart) → concat (parts_bytes (ps ++ (p ∷ []))) ≡ concat (parts_bytes ps) ++ p.bytes
+joined_more [] p = append-nil p.bytes
+joined_more (q ∷ ps) p = ap (λ z. q.bytes ++ z) (joined_more ps p) ∙ sym (append_assoc q.bytes (concat (parts_bytes ps)) p.bytes)
 
--- each of some parts has the tag t where all their tags are t
-pub one_tag_all : (ps : List DerElement) (t : Tag) → AllByRecursion (λ u. u ≡ t) (part_tags ps) → AllByRecursion (λ (p : DerElement). p.tag ≡ t) ps
-one_tag_all [] t h = tt
-one_tag_all (p ∷ ps) t h = (h.0, one_tag_all ps t h.1)
-
--- elements joined are their bytes joined
-pub joined_parts : (ps : List DerElement) → flat_map (λ (p : DerElement). p.bytes.items) ps ≡ concat (part_bytes ps)
-joined_parts [] = refl
-joined_parts (p ∷ ps) = ap (λ z. p.bytes.items ++ z) (joined_parts ps)
-
--- they are their parts' bytes joined
-pub joined_set_parts : (ps : List DerElement) → flat_map (λ (p : DerElement). p.bytes.items) ps ≡ concat (parts_bytes (set_parts ps))
-joined_set_parts [] = refl
-joined_set_parts (p ∷ ps) = ap (λ z. p.bytes.items ++ z) (joined_set_parts ps)
-
-no_items : {A : Type 0} (xs : List A) → length xs ≡ 0 → xs ≡ []
-no_items [] n = refl
-no_items (x ∷ xs) n = absurd (omega (arith, n))
-
--- whether elements of which p is the first have one tag
-pub one_tag_first : (ps rest : List DerElement) (p : DerElement) (b : Bool) → ps ≡ p ∷ rest → IsTrue b ↔ AllByRecursion (λ (q : DerElement). q.tag ≡ p.tag) rest →
-    IsTrue b ↔ HaveOneTag (part_tags ps)
-one_tag_first ps rest p b e h =
-    subst (λ (z : List DerElement). IsTrue b ↔ HaveOneTag (part_tags z)) (sym e) (
-      (λ i. (p.tag, (refl, all_one_tag rest p.tag (h.0 i)))),
-      (λ a. h.1 (subst (λ u. AllByRecursion (λ (q : DerElement). q.tag ≡ u) rest) (sym (a.1.0)) (one_tag_all rest a.0 a.1.1))),
-    )
-
-pub one_tag_none : (ps : List DerElement) → length ps ≡ 0 → HaveOneTag (part_tags ps)
-one_tag_none ps n = subst (λ (z : List DerElement). HaveOneTag (part_tags z)) (sym (no_items ps n)) (bits_tag, tt)
-
-padded_last : (u : ℕ) (prefix : List ℕ) (last : ℕ) → padded u (prefix ++ last ∷ []) ≡ prefix ++ (last - last % 2 ^ u) ∷ []
+-- bytes of which the last one is cleared
+pub padded_last : (u : ℕ) (prefix : List ℕ) (last : ℕ) → padded u (prefix ++ last ∷ []) ≡ prefix ++ (last - last % 2 ^ u) ∷ []
 padded_last u [] last = refl
 padded_last u (x ∷ []) last = refl
 padded_last u (x ∷ y ∷ ys) last = ap (λ zs. x ∷ zs) (padded_last u (y ∷ ys) last)
 
--- the contents of a BIT STRING whose last byte is cleared
-pub contents_cleared : (bytes prefix c : List ℕ) (last count u : ℕ) → count ≤ 8 * length bytes → 8 * length bytes < count + 8 → u ≡ (8 - count % 8) % 8 →
-    bytes ≡ prefix ++ last ∷ [] → c ≡ (u ∷ prefix) ++ (last - last % 2 ^ u) ∷ [] → c ≡ bits_contents (record { bytes = bytes; count = count })
-contents_cleared bytes prefix c last count u enough least unused split e =
-    let same : 8 * length bytes - count ≡ u = omega arith in
-    e ∙ sym (rw same (ap (λ zs. u ∷ zs) (ap (padded u) split ∙ padded_last u prefix last)))
-
--- the contents of a BIT STRING without bytes
-pub contents_empty : (bytes c : List ℕ) (count u : ℕ) → count ≤ 8 * length bytes → u ≡ (8 - count % 8) % 8 → length bytes ≡ 0 → c ≡ u ∷ [] →
-    c ≡ bits_contents (record { bytes = bytes; count = count })
-contents_empty bytes c count u enough unused n e =
-    let empty = no_items bytes n in
-    let same : 8 * length bytes - count ≡ u = omega arith in
-    e ∙ sym (rw same (ap (λ zs. u ∷ zs) (ap (padded u) empty)))
-
 -- as `constructed_part`, where the contents are read at their own place
-pub constructed_taken : (n k : ℕ) (m m' : BERMode) (t : Tag) (s d d' r : List ℕ) (end end' : ContentsEnd) (ps : List DerElement) (p : DerElement) → m ≡ Ber → m' ≡ m →
-    1 ≤ n → k ≡ n - 1 → d' ≡ d → end' ≡ end → IsOtherConstructed t → OpensAt m t Constructed s d end → TakesPartsTo k m' d' end' ps r → IsPartAround t (set_parts ps) p →
+pub constructed_taken : (n k : ℕ) (m m' : BERMode) (t : Tag) (s d d' r : List ℕ) (end end' : ContentsEnd) (ps : List SetPart) (p : SetPart) → m ≡ Ber → m' ≡ m →
+    1 ≤ n → k ≡ n - 1 → d' ≡ d → end' ≡ end → IsOtherConstructed t → OpensAt m t Constructed s d end → TakesPartsTo k m' d' end' ps r → IsPartAround t ps p →
     TakesPart n m s p r
 constructed_taken n k m m' t s d d' r end end' ps p f g level less h i other opens takes encloses =
     let one = subst (λ z. TakesPartsTo k z d' end' ps r) (g ∙ f) takes in
@@ -258,7 +211,7 @@ tree_some zero m v b x = absurd x
 tree_some (suc n) m v b x = branch_some (HasTree n m) (tree_parts n) (suc n) m v b x
 
 -- fewer bytes are left behind an element
-pub taken_shorter : (n : ℕ) (m : BERMode) (s : List ℕ) (p : DerElement) (r q : List ℕ) → TakesPart n m s p r → q ≡ r → length q < length s
+pub taken_shorter : (n : ℕ) (m : BERMode) (s : List ℕ) (p : SetPart) (r q : List ℕ) → TakesPart n m s p r → q ≡ r → length q < length s
 taken_shorter n m s p r q x e =
     let some = tree_some n m x.part.tree x.prefix x.part.read in
     omega (arith, some, ap length e, ap length x.joined ∙ length-append x.prefix r)

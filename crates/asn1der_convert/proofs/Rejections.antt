@@ -32,7 +32,6 @@ use Rattle.asn1der_convert.specs.Tags.{IsStringTag, IsOtherTag, IsPrimitiveTag, 
 use Rattle.asn1der_convert.specs.Tree.{Branch, boolean, bits, string, primitive, set_of, constructed, Tree, branch_tag, tree_parts, HasBranch, HasTree}
 use Rattle.asn1der_convert.specs.declared.contents_class.ContentsClass.{ContentsClass}
 use Rattle.asn1der_convert.specs.declared.contents_class.ContentsClass.TheVariants.{Boolean, Bits, Octets, Other}
-use Rattle.asn1der_convert.specs.declared.der_element.DerElement.{DerElement}
 use Rattle.asn1der_convert.proofs.Exact.{branch_class, branch_is_of_class, branch_begins, kinds_once, tree_starts, tree_exact}
 use Rattle.asn1der_convert.proofs.Parts.{Reached}
 
@@ -234,7 +233,7 @@ no_constructed_type n m t s c end is always opens v b r x e =
     go j w i f g = absurd (cc)
 
 -- contents neither end where the walk is, nor does an element are there
-pub no_trees_from : (n : ℕ) (m : BERMode) (s y : List ℕ) (end : ContentsEnd) (ps : List DerElement) → Reached n m s ps y → NoEnd end y → NoTreeAt n m y →
+pub no_trees_from : (n : ℕ) (m : BERMode) (s y : List ℕ) (end : ContentsEnd) (ps : List SetPart) → Reached n m s ps y → NoEnd end y → NoTreeAt n m y →
     NoTreesTo n m s end
 no_trees_from n m s y end ps x goes_on none vs prefix rest r p e ends =
     let stops = no_prefix_at_end (tree_starts n m) rest (end_after end rest r ends) in
@@ -270,7 +269,7 @@ no_constructed_at n k m m' t s d d' end end' f level less g h is opens none =
     let two = subst (λ z. NoTreesTo k m z end') g one in
     no_constructed n k m t s d end (omega (arith, level, less)) is opens (subst (λ z. NoTreesTo k m d z) h two)
 
-pub no_trees_at : (n k : ℕ) (m o : BERMode) (s y : List ℕ) (end : ContentsEnd) (ps : List DerElement) → k ≡ n → o ≡ m → Reached n m s ps y → NoEnd end y →
+pub no_trees_at : (n k : ℕ) (m o : BERMode) (s y : List ℕ) (end : ContentsEnd) (ps : List SetPart) → k ≡ n → o ≡ m → Reached n m s ps y → NoEnd end y →
     NoTreeAt k o y → NoTreesTo n m s end
 no_trees_at n k m o s y end ps e f x goes_on none =
     no_trees_from n m s y end ps x goes_on (subst (λ z. NoTreeAt n z y) f (subst (λ z. NoTreeAt z o y) e none))

@@ -1,5 +1,5 @@
 -- The order of the elements of a SET or a SET OF.
-use Rattle.std.proofs.Common.{◌≡◌, ℕ, true, false, List, [], ◌∷◌, length, map, refl, sym, ap, ap₂, ◌∙◌, subst, arith}
+use Rattle.std.proofs.Common.{◌≡◌, ◌⊎◌, inl, inr, ℕ, Bool, true, false, List, [], ◌∷◌, length, map, refl, sym, ap, ap₂, ◌∙◌, subst, arith}
 use Rattle.std.specs.Cmp.{nat_cmp_is, IsStrictWeakOrder}
 use Rattle.std.specs.List.{AllByRecursion}
 use Rattle.std.specs.Ordering.{is_lt, ordering_then}
@@ -11,14 +11,15 @@ use Rattle.yasna_base.specs.Order.{octets_cmp, tag_cmp, in_order}
 use Rattle.yasna_base.specs.Set.{SetPart, parts_bytes, set_tag}
 use Rattle.yasna_base.specs.declared.tag.Tag.{Tag}
 use Rattle.yasna_base.proofs.Order.{Rises, rises_order, in_order_rising, in_order_map, all_order}
-use Rattle.asn1der_convert.specs.Parts.{part_tags, set_parts, ArePutInOrder, sorted, as_they_were}
-use Rattle.asn1der_convert.specs.SetOrder.{keyed_part, keyed_parts, set_order, InOrder, by_octets, IsOrderKnown}
+use Rattle.asn1der_convert.specs.Rows.{part_tags, AreElements}
+use Rattle.asn1der_convert.specs.Parts.{PutsInOrder, ArePutInOrder, sorted, as_they_were}
+use Rattle.asn1der_convert.specs.SetOrder.{keyed_part, keyed_parts, set_order, IsSwapped, InOrder, by_octets, IsOrderKnown}
 use Rattle.asn1der_convert.specs.Tree.{HaveOneTag}
-use Rattle.asn1der_convert.specs.declared.der_element.DerElement.{DerElement}
+use Rattle.asn1der_convert.specs.declared.set_order.SetOrder.{SetOrder}
 use Rattle.asn1der_convert.specs.declared.set_order.SetOrder.TheVariants.{Tags, Octets}
 
 -- octets order parts
-octets_rank : IsStrictWeakOrder (λ (p q : SetPart). is_lt (set_order Octets p q))
+pub octets_rank : IsStrictWeakOrder (λ (p q : SetPart). is_lt (set_order Octets p q))
 octets_rank = ranks_by nat_list_cmp_total (λ (p : SetPart). p.bytes)
 
 abbrev part : Tag → List ℕ → SetPart
@@ -36,6 +37,19 @@ same_parts f g h k (x ∷ xs) (y ∷ ys) e i =
     let bytes : g x ≡ k y = cc in
     let all_bytes : map g xs ≡ map k ys = cc in
     ap₂ (λ z zs. z ∷ zs) (ap₂ part tag bytes) (same_parts f g h k xs ys tags all_bytes)
+
+-- parts whose tags and bytes are those of items are the items' parts
+pub labels_of : {B : Type 0} (h : B → Tag) (k : B → List ℕ) (ps : List SetPart) (ys : List B) → part_tags ps ≡ map h ys → parts_bytes ps ≡ map k ys →
+    ps ≡ keyed_parts h k ys
+labels_of h k [] [] e i = refl
+labels_of h k [] (y ∷ ys) e i = absurd (omega (arith, ap length e))
+labels_of h k (p ∷ ps) [] e i = absurd (omega (arith, ap length e))
+labels_of h k (p ∷ ps) (y ∷ ys) e i =
+    let tag : p.tag ≡ h y = cc in
+    let tags : part_tags ps ≡ map h ys = cc in
+    let bytes : p.bytes ≡ k y = cc in
+    let all_bytes : parts_bytes ps ≡ map k ys = cc in
+    ap₂ (λ z zs. z ∷ zs) (ap₂ part tag bytes) (labels_of h k ps ys tags all_bytes)
 
 -- the bytes of items
 pub parts_of_bytes : {A : Type 0} (f : A → Tag) (g : A → List ℕ) (xs : List A) → parts_bytes (keyed_parts f g xs) ≡ map g xs
@@ -85,30 +99,81 @@ one_tag_in_order u (p ∷ q ∷ qs) a =
     (λ (i : is_lt (tag_cmp q.tag p.tag) ≡ true). absurd (cc), one_tag_in_order u (q ∷ qs) a.1)
 
 -- what holds of the tags of elements
-pub tags_all : (P : Tag → Type 0) (ps : List DerElement) → AllByRecursion P (part_tags ps) → AllByRecursion (λ (p : SetPart). P p.tag) (set_parts ps)
-tags_all P [] a = tt
-tags_all P (p ∷ ps) a = (a.0, tags_all P ps a.1)
+tags_hold : (P : Tag → Type 0) (ps : List SetPart) → AllByRecursion P (part_tags ps) → AllByRecursion (λ (p : SetPart). P p.tag) ps
+tags_hold P [] a = tt
+tags_hold P (p ∷ ps) a = (a.0, tags_hold P ps a.1)
 
 -- the order of elements with one tag is known
-pub one_tag_known : (ps : List DerElement) → HaveOneTag (part_tags ps) → IsOrderKnown (set_parts ps)
+pub one_tag_known : (ps : List SetPart) → HaveOneTag (part_tags ps) → IsOrderKnown ps
 one_tag_known ps h =
-    one_tag_in_order h.0 (by_octets (set_parts ps))
-    (all_order (set_order Octets) octets_rank (λ (p : SetPart). p.tag ≡ h.0) (set_parts ps) (tags_all (λ t. t ≡ h.0) ps h.1))
+    one_tag_in_order h.0 (by_octets ps) (all_order (set_order Octets) octets_rank (λ (p : SetPart). p.tag ≡ h.0) ps (tags_hold (λ t. t ≡ h.0) ps h.1))
 
--- elements were put in the order of a SET OF where that is theirs
-pub put_sorted : (t : Tag) (ps qs : List SetPart) → t ≡ set_tag → IsOrderKnown ps → qs ≡ by_octets ps → ArePutInOrder t ps qs
-put_sorted t ps qs s known e = sorted s known e
+in_order_rises : (ps : List SetPart) → InOrder Octets ps → Rises (λ p q. is_lt (set_order Octets p q)) ps
+in_order_rises [] i = tt
+in_order_rises (p ∷ ps) i =
+    let rest = in_order_rises ps i.1 in
+    (after ps i.0 rest, rest)
+  where
+    first_bounds : (q : SetPart) (qs : List SetPart) → is_lt (set_order Octets q p) ≡ false → AllByRecursion (λ r. is_lt (set_order Octets r q) ≡ false) qs →
+        AllByRecursion (λ r. is_lt (set_order Octets r p) ≡ false) qs
+    first_bounds q [] e a = tt
+    first_bounds q (r ∷ qs) e a = (octets_rank.chain r q p a.0 e, first_bounds q qs e a.1)
 
--- copies of elements that were put in the order of a SET OF, whose tags ascend
-pub put_copies : (t : Tag) (ps copies qs : List SetPart) → t ≡ set_tag → copies ≡ ps → qs ≡ by_octets copies → InOrder Tags qs → ArePutInOrder t ps qs
-put_copies t ps copies qs s e f up =
-    let same = f ∙ ap by_octets e in
-    sorted s (subst (InOrder Tags) same up) same
+    not_below : (b : Bool) → (b ≡ true → ⊥) → b ≡ false
+    not_below true f = absurd (f refl)
+    not_below false f = refl
 
--- elements stayed as they were, since the tags of those copies don't ascend
-pub put_nowhere : (t : Tag) (ps copies qs : List SetPart) → copies ≡ ps → qs ≡ by_octets copies → (InOrder Tags qs → ⊥) → ArePutInOrder t ps ps
-put_nowhere t ps copies qs e f down = as_they_were (λ s known. down (subst (InOrder Tags) (sym (f ∙ ap by_octets e)) known)) refl
+    after : (qs : List SetPart) → (IsSwapped Octets p qs → ⊥) → Rises (λ p q. is_lt (set_order Octets p q)) qs → AllByRecursion (λ r. is_lt (set_order Octets r p) ≡ false) qs
+    after [] f r = tt
+    after (q ∷ qs) f r =
+        let e = not_below (is_lt (set_order Octets q p)) f in
+        (e, first_bounds q qs e r.0)
+
+-- elements that are in the order of a SET OF stay so when they are put in it
+pub in_order_already : (ps : List SetPart) → InOrder Octets ps → by_octets ps ≡ ps
+in_order_already ps i = in_order_rising (set_order Octets) octets_rank ps (in_order_rises ps i)
+
+-- whether elements are in an order is decided
+either_way : (b : Bool) → (b ≡ true) ⊎ (b ≡ true → ⊥)
+either_way true = inl refl
+either_way false = inr (λ (e : false ≡ true). absurd (cc))
+
+decides_swapped : (o : SetOrder) (p : SetPart) (ps : List SetPart) → IsSwapped o p ps ⊎ (IsSwapped o p ps → ⊥)
+decides_swapped o p [] = inr (λ i. i)
+decides_swapped o p (q ∷ qs) = either_way (is_lt (set_order o q p))
+
+pub decides_order : (o : SetOrder) (ps : List SetPart) → InOrder o ps ⊎ (InOrder o ps → ⊥)
+decides_order o [] = inl tt
+decides_order o (p ∷ ps) = both (decides_swapped o p ps) (decides_order o ps)
+  where
+    both : IsSwapped o p ps ⊎ (IsSwapped o p ps → ⊥) → InOrder o ps ⊎ (InOrder o ps → ⊥) → InOrder o (p ∷ ps) ⊎ (InOrder o (p ∷ ps) → ⊥)
+    both (inl s) d = inr (λ i. i.0 s)
+    both (inr f) (inl i) = inl (f, i)
+    both (inr f) (inr g) = inr (λ i. g i.1)
 
 -- elements of no SET stayed as they were
-pub put_nothing : (t : Tag) (ps : List SetPart) → (t ≡ set_tag → ⊥) → ArePutInOrder t ps ps
-put_nothing t ps other = as_they_were (λ s known. other s) refl
+pub put_nothing : (t : Tag) (s : List ℕ) → (t ≡ set_tag → ⊥) → PutsInOrder t s s
+put_nothing t s other ps a = (ps, as_they_were (λ i known. other i) refl, a)
+
+-- so did those of a SET that are in the order of a SET OF
+pub put_already : (t : Tag) (s : List ℕ) → t ≡ set_tag → ((ps : List SetPart) → AreElements ps s → InOrder Octets ps) → PutsInOrder t s s
+put_already t s i f ps a = (ps, go (decides_order Tags (by_octets ps)), a)
+  where
+    go : InOrder Tags (by_octets ps) ⊎ (InOrder Tags (by_octets ps) → ⊥) → ArePutInOrder t ps ps
+    go (inl known) = sorted i known (sym (in_order_already ps (f ps a)))
+    go (inr unknown) = as_they_were (λ e known. unknown known) refl
+
+-- elements with one tag were put in the order of a SET OF
+pub put_one_tag : (t : Tag) (s s' : List ℕ) → t ≡ set_tag → ((ps : List SetPart) → AreElements ps s → HaveOneTag (part_tags ps)) →
+    ((ps : List SetPart) → AreElements ps s → AreElements (by_octets ps) s') → PutsInOrder t s s'
+put_one_tag t s s' i one f ps a = (by_octets ps, sorted i (one_tag_known ps (one ps a)) refl, f ps a)
+
+-- so were elements whose tags then ascend
+pub put_both : (s s' : List ℕ) → ((ps : List SetPart) → AreElements ps s → AreElements (by_octets ps) s') →
+    ((ps : List SetPart) → AreElements ps s' → InOrder Tags ps) → PutsInOrder set_tag s s'
+put_both s s' f up ps a = (by_octets ps, sorted refl (up (by_octets ps) (f ps a)) refl, f ps a)
+
+-- others stayed as they were
+pub put_neither : (s s' : List ℕ) → ((ps : List SetPart) → AreElements ps s → AreElements (by_octets ps) s') →
+    ((ps : List SetPart) → AreElements ps s' → InOrder Tags ps → ⊥) → PutsInOrder set_tag s s
+put_neither s s' f down ps a = (ps, as_they_were (λ i known. down (by_octets ps) (f ps a) known) refl, a)

@@ -1,14 +1,19 @@
 -- Inputs and outputs as a whole.
-use Rattle.std.proofs.Common.{◌≡◌, ℕ, ◌^◌, ◌<◌, ◌≤◌, List, [], ◌∷◌, ◌++◌, length, map, sym, ap, ◌∙◌, subst, append-nil, arith}
+use Rattle.std.proofs.Common.{◌≡◌, ℕ, ◌^◌, ◌<◌, ◌≤◌, List, [], ◌∷◌, ◌++◌, length, map, sym, ap, ◌∙◌, subst, append-nil, None, arith}
 use Rattle.std.specs.List.{concat}
 use Rattle.yasna_base.specs.Header.{definite_end}
 use Rattle.yasna_base.specs.Pieces.{Each, Pieces}
 use Rattle.yasna_base.specs.Raw.{IsRaw, IsJoining}
+use Rattle.yasna_base.specs.Set.{SetPart, parts_bytes}
+use Rattle.yasna_base.specs.declared.mode.BERMode.{BERMode}
 use Rattle.yasna_base.specs.declared.mode.BERMode.TheVariants.{Ber, Der}
 use Rattle.asn1der_convert.specs.Conversion.{Converts, EncodesTheSame}
-use Rattle.asn1der_convert.specs.Parts.{part_bytes, TakesPartsTo}
+use Rattle.asn1der_convert.specs.Parts.{TakesPartsTo, AppendsParts}
 use Rattle.asn1der_convert.specs.Tree.{Tree, tree_tag, HasTree, der_encoding, SameTree}
-use Rattle.asn1der_convert.specs.declared.der_element.DerElement.{DerElement}
+use Rattle.asn1der_convert.specs.Ambiguity.{first_place, MeetsTo, AreTheAmbiguities}
+use Rattle.asn1der_convert.specs.declared.ambiguity.Ambiguities.{Ambiguities}
+use Rattle.asn1der_convert.specs.declared.ambiguity.Ambiguity.{Ambiguity}
+use Rattle.asn1der_convert.proofs.Ambiguities.{Inside, are_the_ambiguities}
 use Rattle.asn1der_convert.proofs.Exact.{trees_exact}
 use Rattle.asn1der_convert.proofs.Encodings.{CanonicalEach, canonical_each, all_canonical, canonical}
 use Rattle.asn1der_convert.proofs.Raw.{pieces_raw, tree_raw}
@@ -27,7 +32,7 @@ some_each E (v ∷ vs) [] p h = absurd p
 some_each E (v ∷ vs) (w ∷ ws) p h = omega arith
 
 -- an input that was read to its end was converted
-pub converts : (s r d : List ℕ) (ps : List DerElement) → TakesPartsTo 101 Ber s (definite_end []) ps r → 1 ≤ length s → d ≡ concat (part_bytes ps) → Converts s d
+pub converts : (s r d : List ℕ) (ps : List SetPart) → TakesPartsTo 101 Ber s (definite_end []) ps r → 1 ≤ length s → d ≡ concat (parts_bytes ps) → Converts s d
 converts s r d ps x some e =
     let whole : s ≡ x.prefix = x.joined ∙ ap (λ z. x.prefix ++ z) (x.ends.0) ∙ append-nil x.prefix in
     let read = subst (λ z. Pieces (HasTree 101 Ber) x.parts.trees z) (sym whole) x.parts.read in
@@ -37,6 +42,23 @@ converts s r d ps x some e =
       read = read;
       written = e ∙ ap concat x.parts.encodings;
     }
+
+-- an input whose elements were appended to nothing was converted
+pub converted : (n : ℕ) (m : BERMode) (s t r out d : List ℕ) → n ≡ 101 → m ≡ Ber → s ≡ t → AppendsParts n m s (definite_end []) r out d → 1 ≤ length t → out ≡ [] → Converts t d
+converted n m s t r out d e f g x some none =
+    let one = subst (λ k. TakesPartsTo k m s (definite_end []) x.parts r) e x.taken in
+    let two = subst (λ (k : BERMode). TakesPartsTo 101 k s (definite_end []) x.parts r) f one in
+    let three = subst (λ k. TakesPartsTo 101 Ber k (definite_end []) x.parts r) g two in
+    converts t r d x.parts three some (x.added ∙ ap (λ z. z ++ concat (parts_bytes x.parts)) none)
+
+-- its ambiguities were met
+pub converted_met : (n : ℕ) (m : BERMode) (s t r out d : List ℕ) (old new : Ambiguities) → n ≡ 101 → m ≡ Ber → s ≡ t → AppendsParts n m s (definite_end []) r out d →
+    MeetsTo n m s (definite_end []) r old new → ((a : Ambiguity) → first_place a old ≡ None) → AreTheAmbiguities t new
+converted_met n m s t r out d old new e f g x met none =
+    let one = subst (λ k. Inside k x.parts r old new m s (definite_end [])) e (x.taken, met) in
+    let two = subst (λ (k : BERMode). Inside 101 x.parts r old new k s (definite_end [])) f one in
+    let three = subst (λ k. Inside 101 x.parts r old new Ber k (definite_end [])) g two in
+    are_the_ambiguities t r x.parts old new three.0 three.1 none
 
 -- what is written is canonical
 abbrev Written : List (Tree 101) → Type 0

@@ -1,5 +1,5 @@
 -- Where the encoding in DER depends on a schema.
-use Rattle.std.specs.Prelude.{◌≡◌, ◌⊎◌, ◌↔◌, ℕ, zero, suc, min, List, [], ◌∷◌, ◌++◌, Option, None, Some}
+use Rattle.std.specs.Prelude.{◌≡◌, ◌⊎◌, ◌↔◌, ℕ, zero, suc, min, List, [], ◌∷◌, ◌++◌, take, drop, Option, None, Some}
 use Rattle.std.specs.List.{AllByRecursion}
 use Rattle.yasna_base.specs.Bits.{bits_tag}
 use Rattle.yasna_base.specs.Grammar.{max_depth}
@@ -11,13 +11,13 @@ use Rattle.yasna_base.specs.declared.mode.BERMode.{BERMode}
 use Rattle.yasna_base.specs.declared.mode.BERMode.TheVariants.{Ber}
 use Rattle.yasna_base.specs.declared.tag.Tag.{Tag}
 use Rattle.yasna_base.specs.declared.tag.TagClass.TheVariants.{Universal}
+use Rattle.asn1der_convert.specs.Rows.{AreElements}
 use Rattle.asn1der_convert.specs.Parts.{IsPartAround}
 use Rattle.asn1der_convert.specs.SetOrder.{InOrder}
 use Rattle.asn1der_convert.specs.Tree.{Branch, boolean, bits, string, primitive, set_of, constructed, Tree, HasTree, tree_parts}
 use Rattle.asn1der_convert.specs.declared.ambiguity.Ambiguities.{Ambiguities}
 use Rattle.asn1der_convert.specs.declared.ambiguity.Ambiguity.{Ambiguity}
 use Rattle.asn1der_convert.specs.declared.ambiguity.Ambiguity.TheVariants.{Segments, ImplicitSetOf, Order}
-use Rattle.asn1der_convert.specs.declared.der_element.DerElement.{DerElement}
 use Rattle.asn1der_convert.specs.declared.set_order.SetOrder.TheVariants.{Tags, Octets}
 
 -- these elements may be the segments of a string: all are OCTET STRINGs, or all are BIT STRINGs (X.690, 8.6.4 and 8.7.3)
@@ -67,9 +67,19 @@ first_place ImplicitSetOf d = d.implicit_set_of
 first_place Order d = d.order
 
 -- p is the constructed element in DER with the tag t around the elements ps, and its ambiguities were met
-pub record EnclosesParts (t : Tag) (ps : List SetPart) (p : DerElement) (old new : Ambiguities) : Type 0 where
+pub record EnclosesParts (t : Tag) (ps : List SetPart) (p : SetPart) (old new : Ambiguities) : Type 0 where
   pub part : IsPartAround t ps p
   pub met : (a : Ambiguity) → Meets (first_place a old) (first_place a new) (IsCertain a t part.inner)
+
+-- the header was put before the elements that begin at the place k of out
+pub record EnclosesFrom (t : Tag) (ps : List SetPart) (k : ℕ) (out out' : List ℕ) (old new : Ambiguities) : Type 0 where
+  pub part : SetPart
+  pub encloses : EnclosesParts t ps part old new
+  pub added : out' ≡ take k out ++ part.bytes
+
+-- as `EnclosesFrom`, whichever elements begin there
+abbrev pub Encloses : Tag → ℕ → List ℕ → List ℕ → Ambiguities → Ambiguities → Type 0
+Encloses t k out out' old new = (ps : List SetPart) → AreElements ps (drop k out) → EnclosesFrom t ps k out out' old new
 
 -- the ambiguities of these elements were met
 abbrev pub MeetsAmbiguities : (n : ℕ) → List (Tree n) → Ambiguities → Ambiguities → Type 0

@@ -1,11 +1,12 @@
 //! Ambiguities: where the DER encoding depends on a schema.
-ghost use Rattle.std.specs.Prelude.{◌≡◌, ◌↔◌, IsTrue, None};
+ghost use Rattle.std.specs.Prelude.{◌≡◌, ◌↔◌, IsTrue, List, None};
 ghost use Rattle.asn1der_convert.specs.Ambiguity.{MayBeSegments, IsCertain, Notes, first_place};
 ghost use Rattle.asn1der_convert.specs.declared.ambiguity.Ambiguity.{Ambiguity};
-ghost use Rattle.asn1der_convert.specs.Parts.{set_parts};
+ghost use Rattle.yasna_base.specs.Set.{SetPart};
+ghost use Rattle.asn1der_convert.specs.Rows.{AreElements};
 
-use crate::der_element::DerElement;
-use crate::set_order::{SetOrder, all_have_tag, are_in_order};
+use crate::elements::all_have_tag;
+use crate::set_order::{SetOrder, are_in_order};
 use std::fmt;
 use yasna_base::tag::{Tag, TagClass};
 use yasna_base::tags::{TAG_BITSTRING, TAG_OCTETSTRING, TAG_SET};
@@ -35,25 +36,25 @@ impl fmt::Display for Ambiguity {
 }
 
 // Whether these may be the segments of a string (X.690, 8.6.4 and 8.7.3).
-fn are_segments(parts: &[DerElement]) -> bool
-    ensures { IsTrue result ↔ MayBeSegments (set_parts parts.now) }
+fn are_segments(elements: &[u8]) -> bool
+    ensures { (ps : List SetPart) → AreElements ps elements.now → IsTrue result ↔ MayBeSegments ps }
 {
-    all_have_tag(parts, TAG_OCTETSTRING) || all_have_tag(parts, TAG_BITSTRING)
+    all_have_tag(elements, TAG_OCTETSTRING) || all_have_tag(elements, TAG_BITSTRING)
 }
 
 // Whether the constructed element with this tag around these has no such ambiguity.
-fn is_certain(ambiguity: Ambiguity, tag: Tag, parts: &[DerElement]) -> bool
-    ensures { IsTrue result ↔ IsCertain ambiguity tag (set_parts parts.now) }
+fn is_certain(ambiguity: Ambiguity, tag: Tag, elements: &[u8]) -> bool
+    ensures { (ps : List SetPart) → AreElements ps elements.now → IsTrue result ↔ IsCertain ambiguity tag ps }
 {
     match ambiguity {
-        Ambiguity::Segments => tag.tag_class == TagClass::Universal || !are_segments(parts),
+        Ambiguity::Segments => tag.tag_class == TagClass::Universal || !are_segments(elements),
         Ambiguity::ImplicitSetOf => {
-            tag.tag_class == TagClass::Universal || are_in_order(SetOrder::Octets, parts)
+            tag.tag_class == TagClass::Universal || are_in_order(SetOrder::Octets, elements)
         }
         Ambiguity::Order => {
             tag != TAG_SET
-                || are_in_order(SetOrder::Octets, parts)
-                || are_in_order(SetOrder::Tags, parts)
+                || are_in_order(SetOrder::Octets, elements)
+                || are_in_order(SetOrder::Tags, elements)
         }
     }
 }
@@ -110,12 +111,12 @@ impl Ambiguities {
     }
 
     /// Notes the ambiguities of the constructed element that begins here, has this tag and is around these.
-    pub fn note(&mut self, offset: usize, tag: Tag, parts: &[DerElement])
-        ensures { (a : Ambiguity) → Notes (first_place a self.old) (first_place a self.new) offset (IsCertain a tag (set_parts parts.now)) }
+    pub fn note(&mut self, offset: usize, tag: Tag, elements: &[u8])
+        ensures { (ps : List SetPart) → AreElements ps elements.now → (a : Ambiguity) → Notes (first_place a self.old) (first_place a self.new) offset (IsCertain a tag ps) }
     {
-        let segments = is_certain(Ambiguity::Segments, tag, parts);
-        let implicit = is_certain(Ambiguity::ImplicitSetOf, tag, parts);
-        let order = is_certain(Ambiguity::Order, tag, parts);
+        let segments = is_certain(Ambiguity::Segments, tag, elements);
+        let implicit = is_certain(Ambiguity::ImplicitSetOf, tag, elements);
+        let order = is_certain(Ambiguity::Order, tag, elements);
         self.segments = noted(self.segments, offset, segments);
         self.implicit_set_of = noted(self.implicit_set_of, offset, implicit);
         self.order = noted(self.order, offset, order);

@@ -1,12 +1,13 @@
 //! Elements from BER to DER (X.690, clauses 8, 10 and 11).
 //!
 //! `convert` begins the walk. `convert_contents` goes from element to element, `convert_element` decides by an element's tag how its
-//! contents are read, and `convert_constructed` descends one level. Each returns whole elements in DER, so that those of a SET OF are
-//! put in order before their header is written. The contents of a primitive element are turned into those in DER by `asn1_contents`.
-ghost use Rattle.std.specs.Prelude.{◌≡◌, ◌≤◌, ◌<◌, ◌+◌, ◌*◌, ◌-◌, ◌%◌, ◌^◌, ◌∷◌, [], ℕ, List, IfOk, IfErr, MatchOption, length};
+//! contents are read, and `convert_constructed` descends one level. Each appends whole elements in DER to one output. The header of a constructed
+//! element is put before its contents once these are there, so that those of a SET OF are put in order before. The contents of a primitive
+//! element are turned into those in DER by `asn1_contents`.
+ghost use Rattle.std.specs.Prelude.{◌≡◌, ◌≤◌, ◌<◌, ◌+◌, ◌++◌, ◌*◌, ◌-◌, ◌%◌, ◌^◌, ◌∷◌, [], ℕ, List, IfOk, IfErr, OnOk, MatchOption, length};
 ghost use Rattle.asn1_contents.specs.Contents.{HasContents};
 ghost use Rattle.asn1_contents.specs.ContentsType.{type_with};
-ghost use Rattle.yasna_base.specs.Bits.{bits_tag, bits_contents};
+ghost use Rattle.yasna_base.specs.Bits.{bits_tag, padded};
 ghost use Rattle.yasna_base.specs.Boolean.{boolean_byte, boolean_tag};
 ghost use Rattle.yasna_base.specs.Grammar.{max_depth};
 ghost use Rattle.yasna_base.specs.Header.{OpensAt, EndsBefore};
@@ -14,24 +15,24 @@ ghost use Rattle.yasna_bytes.specs.Header.{NoEnd};
 ghost use Rattle.yasna_bytes.specs.Opening.{end_found};
 ghost use Rattle.asn1der_convert.specs.Conversion.{Converts, EncodesTheSame};
 ghost use Rattle.yasna_base.specs.declared.mode.BERMode.TheVariants.{Ber, Der};
-ghost use Rattle.yasna_base.specs.Identifier.{BeginsWithTag};
+ghost use Rattle.yasna_base.specs.Identifier.{BeginsWithTag, identifier};
 ghost use Rattle.yasna_base.specs.Raw.{IsRaw, IsJoining};
 ghost use Rattle.yasna_base.specs.declared.tag.PCBit.TheVariants.{Primitive, Constructed};
-ghost use Rattle.asn1der_convert.specs.Ambiguity.{EnclosesParts, MeetsAt, MeetsTo, AreTheAmbiguities};
-ghost use Rattle.asn1der_convert.specs.Parts.{set_parts, IsElementOf, PartAt, PartsAt};
+ghost use Rattle.asn1der_convert.specs.Ambiguity.{Encloses, MeetsAt, MeetsTo, AreTheAmbiguities};
+ghost use Rattle.asn1der_convert.specs.Parts.{AppendsElementOf, PartAt, PartsAt};
 ghost use Rattle.asn1der_convert.specs.declared.error.ConvertError.TheVariants.{Memory};
 ghost use Rattle.asn1der_convert.specs.Tags.{IsOtherTag, IsOtherPrimitive, IsOtherConstructed, IsStringTag};
 
 use crate::ambiguity::Ambiguities;
 use crate::contents_class::{ContentsClass, class_of, is_constructed_type, is_primitive_type};
-use crate::der_element::DerElement;
 use crate::error::{ConvertError, contents_error, expected_of, offset_of};
 use crate::segments::{StringKind, string_error};
 use crate::set_order::put_in_order;
-use crate::writing::{element, joined};
+use crate::writing::{append_element, enclose_contents};
 use asn1_contents::contents_type::contents_type;
 use asn1_contents::der_contents::der_contents;
-use std::alloc::Global;
+use asn1_contents::plain::are_plain;
+use std::alloc::{AllocError, Global};
 use yasna_base::bytes::identifier::read_identifier;
 use yasna_base::error::ASN1ErrorKind;
 use yasna_base::mode::BERMode;
@@ -41,6 +42,7 @@ use yasna_bytes::bytes::contents::read_value;
 use yasna_bytes::bytes::cursor::Cursor;
 use yasna_bytes::bytes::header::{ContentsEnd, Opened, end_of_contents, open_after_identifier};
 use yasna_bytes::bytes::segments::{bit_string, octet_string};
+use yasna_bytes::bytes::walk::prefix_before;
 
 /// An input in DER.
 #[derive(Drop)]
@@ -58,18 +60,21 @@ fn truth_byte(truth: bool) -> u8
     if truth { 255 } else { 0 }
 }
 
-// A BOOLEAN, whose TRUE is 255 (X.690, 11.1).
-fn convert_boolean(alloc: Global, cursor: Cursor<'_>) -> Result<(DerElement, &[u8]), ConvertError>
+// Appends a BOOLEAN, whose TRUE is 255 (X.690, 11.1).
+fn convert_boolean<'a>(
+    alloc: Global,
+    cursor: Cursor<'a>,
+    out: &mut Vec<u8>,
+) -> Result<&'a [u8], ConvertError>
     requires { BeginsWithTag boolean_tag cursor.left.now }
-    ensures { PartAt cursor.entry.levels cursor.entry.mode cursor.entry.left.now result }
+    ensures { PartAt cursor.entry.levels cursor.entry.mode cursor.entry.left.now out.old.items out.new.items result }
 {
     let (truth, rest) = match read_value::<bool>(alloc, cursor, TAG_BOOLEAN) {
         Ok(taken) => taken,
         Err(rejection) => return Err(ConvertError::at(cursor, rejection.kind)),
     };
-    let contents = vec![in alloc; truth_byte(truth)]?;
-    let part = element(alloc, TAG_BOOLEAN, PCBit::Primitive, contents)?;
-    Ok((part, rest))
+    append_element(out, &[1], &[], &[truth_byte(truth)])?;
+    Ok(rest)
 }
 
 // The last byte of a BIT STRING, with zeros in this many unused bits.
@@ -87,68 +92,79 @@ fn unused_bits(count: usize) -> u8
     ((8 - count % 8) % 8) as u8
 }
 
-// The contents of a BIT STRING: the count of unused bits, and the bytes, whose unused bits are zeros (X.690, 11.2.1).
-fn bit_contents(alloc: Global, bytes: &[u8], count: usize) -> Result<Vec<u8>, ConvertError>
-    requires enough { count ≤ 8 * length bytes.now }
-    requires least { 8 * length bytes.now < count + 8 }
-    ensures contents { IfOk result (λ c. c.items ≡ bits_contents (record { bytes = bytes.now; count = count })) }
-    ensures memory { IfErr result (λ e. e ≡ Memory) }
+// Clears this many unused bits of a BIT STRING's last byte (X.690, 11.2.1).
+fn clear_unused(bytes: &mut Vec<u8>, unused: u8) -> Result<(), AllocError>
+    requires { unused ≤ 7 }
+    ensures { OnOk result (bytes.new.items ≡ padded unused bytes.old.items) }
 {
-    let unused = unused_bits(count);
-    let mut contents = vec![in alloc; unused]?;
-    let Some((last, prefix)) = bytes.split_last() else {
-        return Ok(contents);
+    let Some(last) = bytes.pop() else {
+        return Ok(());
     };
-    contents.extend_from_slice(prefix)?;
-    contents.push(cleared_byte(*last, unused))?;
-    Ok(contents)
+    bytes.push(cleared_byte(last, unused))?;
+    Ok(())
 }
 
-// A BIT STRING, in one piece.
-fn convert_bits(alloc: Global, cursor: Cursor<'_>) -> Result<(DerElement, &[u8]), ConvertError>
+// Appends a BIT STRING, in one piece.
+fn convert_bits<'a>(
+    alloc: Global,
+    cursor: Cursor<'a>,
+    out: &mut Vec<u8>,
+) -> Result<&'a [u8], ConvertError>
     requires { BeginsWithTag bits_tag cursor.left.now }
-    ensures { PartAt cursor.entry.levels cursor.entry.mode cursor.entry.left.now result }
+    ensures { PartAt cursor.entry.levels cursor.entry.mode cursor.entry.left.now out.old.items out.new.items result }
 {
-    let ((bytes, count), rest) = match bit_string(alloc, cursor, TAG_BITSTRING) {
+    let ((string, count), rest) = match bit_string(alloc, cursor, TAG_BITSTRING) {
         Ok(taken) => taken,
         Err(rejection) => {
             let bits = StringKind::Bits;
             return Err(string_error(alloc, cursor, TAG_BITSTRING, bits, rejection.kind));
         }
     };
-    let contents = bit_contents(alloc, &bytes, count)?;
-    let part = element(alloc, TAG_BITSTRING, PCBit::Primitive, contents)?;
-    Ok((part, rest))
+    let mut bytes = string;
+    let unused = unused_bits(count);
+    clear_unused(&mut bytes, unused)?;
+    append_element(out, &[3], &[unused], &bytes)?;
+    Ok(rest)
 }
 
-// The primitive element with this tag and the contents in DER of these, which are those of an element that begins here.
-fn primitive_element(
+// Appends the primitive element with this identifier and the contents in DER of these, which are those of an element that begins here.
+fn append_primitive(
     alloc: Global,
     cursor: Cursor<'_>,
     tag: Tag,
-    contents: Vec<u8>,
-) -> Result<DerElement, ConvertError>
-    ensures tag { IfOk result (λ p. p.tag ≡ tag) }
-    ensures bytes { IfOk result (λ p. IsElementOf Ber tag contents.items p) }
-    ensures rejection { IfErr result (λ e. (e ≡ Memory → ⊥) → (d : List ℕ) → HasContents (type_with tag) Ber d contents.items → ⊥) }
+    identifier_bytes: &[u8],
+    contents: &[u8],
+    out: &mut Vec<u8>,
+) -> Result<(), ConvertError>
+    requires { identifier_bytes.now ≡ identifier tag Primitive }
+    ensures bytes { OnOk result (AppendsElementOf Ber tag contents.now out.old.items out.new.items) }
+    ensures rejection { IfErr result (λ e. (e ≡ Memory → ⊥) → (d : List ℕ) → HasContents (type_with tag) Ber d contents.now → ⊥) }
 {
     let contents_type = contents_type(tag);
-    let Some(contents) = der_contents(alloc, contents_type, contents)? else {
+    if are_plain(contents_type, contents) {
+        append_element(out, identifier_bytes, &[], contents)?;
+        return Ok(());
+    }
+    let mut copy = Vec::new(alloc);
+    copy.extend_from_slice(contents)?;
+    let Some(converted) = der_contents(alloc, contents_type, copy)? else {
         return Err(contents_error(cursor, expected_of(contents_type)));
     };
-    element(alloc, tag, PCBit::Primitive, contents)
+    append_element(out, identifier_bytes, &[], &converted)?;
+    Ok(())
 }
 
-// A string of octets, in one piece (X.690, 10.2), and in DER's form.
-fn convert_octets(
+// Appends a string of octets, in one piece (X.690, 10.2), and in DER's form.
+fn convert_octets<'a>(
     alloc: Global,
-    cursor: Cursor<'_>,
+    cursor: Cursor<'a>,
     tag: Tag,
-) -> Result<(DerElement, &[u8]), ConvertError>
+    out: &mut Vec<u8>,
+) -> Result<&'a [u8], ConvertError>
     requires mode { cursor.mode ≡ Ber }
     requires string { IsStringTag tag }
     requires begins { BeginsWithTag tag cursor.left.now }
-    ensures { PartAt cursor.entry.levels cursor.entry.mode cursor.entry.left.now result }
+    ensures { PartAt cursor.entry.levels cursor.entry.mode cursor.entry.left.now out.old.items out.new.items result }
 {
     let (octets, rest) = match octet_string(alloc, cursor, tag) {
         Ok(taken) => taken,
@@ -157,8 +173,8 @@ fn convert_octets(
             return Err(string_error(alloc, cursor, tag, octets, rejection.kind));
         }
     };
-    match primitive_element(alloc, cursor, tag, octets) {
-        Ok(part) => Ok((part, rest)),
+    match append_primitive(alloc, cursor, tag, &[tag.tag_number as u8], &octets, out) {
+        Ok(()) => Ok(rest),
         Err(error) => Err(error),
     }
 }
@@ -173,146 +189,174 @@ pub fn after_end<'a>(end: ContentsEnd<'a>, left: &'a [u8]) -> Option<&'a [u8]>
     }
 }
 
-// A primitive element of another type, whose contents are in DER's form.
+// Appends a primitive element of another type, whose contents are in DER's form.
 fn convert_primitive<'a>(
     alloc: Global,
     cursor: Cursor<'a>,
     tag: Tag,
+    identifier_bytes: &[u8],
     opened: &Opened<'a>,
-) -> Result<(DerElement, &'a [u8]), ConvertError>
+    out: &mut Vec<u8>,
+) -> Result<&'a [u8], ConvertError>
     requires mode { cursor.mode ≡ Ber }
     requires level { 1 ≤ cursor.levels }
     requires other { IsOtherPrimitive tag }
+    requires bytes { identifier_bytes.now ≡ identifier tag Primitive }
     requires opens { OpensAt cursor.mode tag Primitive cursor.left.now opened.now.contents opened.now.end }
-    ensures { PartAt cursor.entry.levels cursor.entry.mode cursor.entry.left.now result }
+    ensures { PartAt cursor.entry.levels cursor.entry.mode cursor.entry.left.now out.old.items out.new.items result }
 {
     let ContentsEnd::Definite(after) = opened.end else {
         // No mode accepts the indefinite form here.
         return Err(ConvertError::at(cursor, ASN1ErrorKind::Invalid));
     };
-    let mut contents = Vec::new(alloc);
-    contents.extend_from_slice(opened.contents)?;
-    match primitive_element(alloc, cursor, tag, contents) {
-        Ok(part) => Ok((part, after)),
+    match append_primitive(alloc, cursor, tag, identifier_bytes, opened.contents, out) {
+        Ok(()) => Ok(after),
         Err(error) => Err(error),
     }
 }
 
-// The constructed element with this tag around these, which begins here, and whose ambiguities are noted.
+// Puts the header of the constructed element with this tag before its elements, which begin at a place of the output. Before, they are put in
+// order, and its ambiguities are noted.
 fn enclose(
     alloc: Global,
     offset: usize,
     tag: Tag,
-    parts: Vec<DerElement>,
+    identifier_bytes: &[u8],
+    start: usize,
+    out: &mut Vec<u8>,
     ambiguities: &mut Ambiguities,
-) -> Result<DerElement, ConvertError>
-    ensures part { IfOk result (λ p. EnclosesParts tag (set_parts parts.items) p ambiguities.old ambiguities.new) }
-    ensures memory { IfErr result (λ e. e ≡ Memory) }
+) -> Result<(), AllocError>
+    requires within { start ≤ length out.old.items }
+    requires bytes { identifier_bytes.now ≡ identifier tag Constructed }
+    ensures { OnOk result (Encloses tag start out.old.items out.new.items ambiguities.old ambiguities.new) }
 {
-    let mut inner = parts;
-    put_in_order(alloc, tag, &mut inner)?;
-    ambiguities.note(offset, tag, &inner);
-    let contents = joined(alloc, &inner)?;
-    element(alloc, tag, PCBit::Constructed, contents)
+    let bytes = out.as_mut_slice();
+    put_in_order(alloc, tag, &mut bytes[start..])?;
+    let elements = &out.as_slice()[start..];
+    ambiguities.note(offset, tag, elements);
+    enclose_contents(out, start, identifier_bytes)
 }
 
-// Converts the elements up to the end of contents, and returns what follows it.
+// Appends the elements up to the end of contents, and returns what follows it.
 #[cycle(conversion)]
 fn convert_contents<'a>(
     alloc: Global,
     contents: Cursor<'a>,
     end: ContentsEnd<'a>,
+    out: &mut Vec<u8>,
     ambiguities: &mut Ambiguities,
-) -> Result<(Vec<DerElement>, &'a [u8]), ConvertError>
+) -> Result<&'a [u8], ConvertError>
     requires { contents.mode ≡ Ber }
-    ensures parts { PartsAt contents.entry.levels contents.entry.mode contents.entry.left.now (end_found end.entry) result }
+    ensures parts { PartsAt contents.entry.levels contents.entry.mode contents.entry.left.now (end_found end.entry) out.old.items out.new.items result }
     ensures met { IfOk result (λ r. MeetsTo contents.entry.levels contents.entry.mode contents.entry.left.now
-        (end_found end.entry) r.1.now ambiguities.old ambiguities.new) }
+        (end_found end.entry) r.now ambiguities.old ambiguities.new) }
 {
-    let mut parts = Vec::new(alloc);
     let mut place = contents;
     loop {
         if let Some(after) = after_end(end, place.left) {
-            return Ok((parts, after));
+            return Ok(after);
         }
-        let (part, rest) = match convert_element(alloc, place, ambiguities) {
-            Ok(taken) => taken,
+        let rest = match convert_element(alloc, place, out, ambiguities) {
+            Ok(rest) => rest,
             Err(error) => return Err(error),
         };
-        parts.push(part)?;
         place = place.further(rest);
     }
 }
 
-// Converts a constructed element of another type, and notes its ambiguities.
+// Appends a constructed element of another type, and notes its ambiguities.
 #[cycle(conversion)]
 fn convert_constructed<'a>(
     alloc: Global,
     cursor: Cursor<'a>,
     tag: Tag,
+    identifier_bytes: &[u8],
     opened: &Opened<'a>,
+    out: &mut Vec<u8>,
     ambiguities: &mut Ambiguities,
-) -> Result<(DerElement, &'a [u8]), ConvertError>
+) -> Result<&'a [u8], ConvertError>
     requires mode { cursor.mode ≡ Ber }
     requires level { 1 ≤ cursor.levels }
     requires other { IsOtherConstructed tag }
+    requires bytes { identifier_bytes.now ≡ identifier tag Constructed }
     requires opens { OpensAt cursor.mode tag Constructed cursor.left.now opened.now.contents opened.now.end }
-    ensures part { PartAt cursor.entry.levels cursor.entry.mode cursor.entry.left.now result }
-    ensures met { IfOk result (λ r. MeetsAt cursor.entry.levels cursor.entry.mode cursor.entry.left.now r.1.now ambiguities.old ambiguities.new) }
+    ensures part { PartAt cursor.entry.levels cursor.entry.mode cursor.entry.left.now out.old.items out.new.items result }
+    ensures met { IfOk result (λ r. MeetsAt cursor.entry.levels cursor.entry.mode cursor.entry.left.now r.now ambiguities.old ambiguities.new) }
 {
+    let start = out.len();
     let contents = cursor.inside(opened);
-    let (parts, rest) = match convert_contents(alloc, contents, opened.end, ambiguities) {
-        Ok(taken) => taken,
+    let rest = match convert_contents(alloc, contents, opened.end, out, ambiguities) {
+        Ok(rest) => rest,
         Err(error) => return Err(error),
     };
-    match enclose(alloc, offset_of(cursor), tag, parts, ambiguities) {
-        Ok(part) => Ok((part, rest)),
-        Err(error) => Err(error),
+    match enclose(
+        alloc,
+        offset_of(cursor),
+        tag,
+        identifier_bytes,
+        start,
+        out,
+        ambiguities,
+    ) {
+        Ok(()) => Ok(rest),
+        Err(_) => Err(ConvertError::Memory),
     }
 }
 
-// Converts an element of another type.
+// Appends an element of another type.
 #[cycle(conversion)]
 fn convert_other<'a>(
     alloc: Global,
     cursor: Cursor<'a>,
     tag: Tag,
+    identifier_bytes: &[u8],
     opened: &Opened<'a>,
+    out: &mut Vec<u8>,
     ambiguities: &mut Ambiguities,
-) -> Result<(DerElement, &'a [u8]), ConvertError>
+) -> Result<&'a [u8], ConvertError>
     requires mode { cursor.mode ≡ Ber }
     requires level { 1 ≤ cursor.levels }
     requires other { IsOtherTag tag }
+    requires bytes { identifier_bytes.now ≡ identifier tag opened.now.bit }
     requires opens { OpensAt cursor.mode tag opened.now.bit cursor.left.now opened.now.contents opened.now.end }
-    ensures part { PartAt cursor.entry.levels cursor.entry.mode cursor.entry.left.now result }
-    ensures met { IfOk result (λ r. MeetsAt cursor.entry.levels cursor.entry.mode cursor.entry.left.now r.1.now ambiguities.old ambiguities.new) }
+    ensures part { PartAt cursor.entry.levels cursor.entry.mode cursor.entry.left.now out.old.items out.new.items result }
+    ensures met { IfOk result (λ r. MeetsAt cursor.entry.levels cursor.entry.mode cursor.entry.left.now r.now ambiguities.old ambiguities.new) }
 {
     match opened.bit {
         PCBit::Primitive => {
             if is_constructed_type(tag) {
                 return Err(ConvertError::at(cursor, ASN1ErrorKind::Invalid));
             }
-            convert_primitive(alloc, cursor, tag, opened)
+            convert_primitive(alloc, cursor, tag, identifier_bytes, opened, out)
         }
         PCBit::Constructed => {
             if is_primitive_type(tag) {
                 return Err(ConvertError::at(cursor, ASN1ErrorKind::Invalid));
             }
-            convert_constructed(alloc, cursor, tag, opened, ambiguities)
+            convert_constructed(
+                alloc,
+                cursor,
+                tag,
+                identifier_bytes,
+                opened,
+                out,
+                ambiguities,
+            )
         }
     }
 }
 
-// Converts an element, and returns what follows it.
+// Appends an element, and returns what follows it.
 #[cycle(conversion)]
 fn convert_element<'a>(
     alloc: Global,
     cursor: Cursor<'a>,
+    out: &mut Vec<u8>,
     ambiguities: &mut Ambiguities,
-) -> Result<(DerElement, &'a [u8]), ConvertError>
+) -> Result<&'a [u8], ConvertError>
     requires { cursor.mode ≡ Ber }
-    ensures part { PartAt cursor.entry.levels cursor.entry.mode cursor.entry.left.now result }
-    ensures met { IfOk result (λ r. MeetsAt cursor.entry.levels cursor.entry.mode cursor.entry.left.now r.1.now ambiguities.old ambiguities.new) }
+    ensures part { PartAt cursor.entry.levels cursor.entry.mode cursor.entry.left.now out.old.items out.new.items result }
+    ensures met { IfOk result (λ r. MeetsAt cursor.entry.levels cursor.entry.mode cursor.entry.left.now r.now ambiguities.old ambiguities.new) }
 {
     let (tag, bit, trailing) = match read_identifier(cursor.left) {
         Ok(identifier) => identifier,
@@ -320,11 +364,22 @@ fn convert_element<'a>(
     };
     match class_of(tag) {
         ContentsClass::EndOfContents => Err(ConvertError::at(cursor, ASN1ErrorKind::Invalid)),
-        ContentsClass::Boolean => convert_boolean(alloc, cursor),
-        ContentsClass::Bits => convert_bits(alloc, cursor),
-        ContentsClass::Octets => convert_octets(alloc, cursor, tag),
+        ContentsClass::Boolean => convert_boolean(alloc, cursor, out),
+        ContentsClass::Bits => convert_bits(alloc, cursor, out),
+        ContentsClass::Octets => convert_octets(alloc, cursor, tag, out),
         ContentsClass::Other => match open_after_identifier(cursor, bit, trailing) {
-            Ok(opened) => convert_other(alloc, cursor, tag, &opened, ambiguities),
+            Ok(opened) => {
+                let identifier_bytes = prefix_before(cursor.left, trailing);
+                convert_other(
+                    alloc,
+                    cursor,
+                    tag,
+                    identifier_bytes,
+                    &opened,
+                    out,
+                    ambiguities,
+                )
+            }
             Err(rejection) => Err(ConvertError::at(cursor, rejection.kind)),
         },
     }
@@ -345,11 +400,10 @@ pub fn convert(alloc: Global, input: &[u8]) -> Result<Converted, ConvertError>
         return Err(ConvertError::at(start, ASN1ErrorKind::Eof));
     }
     let mut ambiguities = Ambiguities::none();
+    let mut bytes = Vec::with_capacity(alloc, input.len())?;
     let end = ContentsEnd::Definite(&[]);
-    let (parts, _) = match convert_contents(alloc, start, end, &mut ambiguities) {
-        Ok(taken) => taken,
-        Err(error) => return Err(error),
-    };
-    let bytes = joined(alloc, &parts)?;
-    Ok(Converted { bytes, ambiguities })
+    match convert_contents(alloc, start, end, &mut bytes, &mut ambiguities) {
+        Ok(_rest) => Ok(Converted { bytes, ambiguities }),
+        Err(error) => Err(error),
+    }
 }

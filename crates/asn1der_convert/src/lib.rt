@@ -4,10 +4,11 @@
 //! |---|---|
 //! | `conversion` | the walk over the elements |
 //! | `contents_class` | how the contents of an element are read, by its tag |
-//! | `der_element` | the elements that are written |
+//! | `elements` | elements in memory, one after the other |
 //! | `segments` | the malformed segment of a string |
 //! | `set_order` | the order of a SET or a SET OF |
-//! | `writing` | headers before contents |
+//! | `sorting` | elements put in order in their own memory |
+//! | `writing` | elements and headers that are written |
 //! | `ambiguity` | where the DER encoding depends on a schema |
 //! | `error` | the errors of the conversion |
 #![tactic(auto)]
@@ -15,8 +16,9 @@
 pub mod ambiguity;
 mod contents_class;
 pub mod conversion;
-mod der_element;
+mod elements;
 pub mod error;
 mod segments;
 mod set_order;
+mod sorting;
 mod writing;

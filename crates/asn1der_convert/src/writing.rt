@@ -1,43 +1,69 @@
-//! Elements in DER.
-ghost use Rattle.std.specs.Prelude.{◌≡◌, IfOk, IfErr};
-ghost use Rattle.asn1der_convert.specs.declared.error.ConvertError.TheVariants.{Memory};
-ghost use Rattle.std.specs.List.{flat_map};
-ghost use Rattle.yasna_base.specs.Canonical.{canonical_element};
-ghost use Rattle.yasna_base.specs.declared.mode.BERMode.TheVariants.{Der};
+//! Elements that are appended to an output, and headers that are put before contents.
+ghost use Rattle.std.specs.Prelude.{◌≡◌, ◌≤◌, ◌-◌, ◌++◌, OnOk, length, drop, take};
+ghost use Rattle.yasna_base.specs.BigInteger.{trim_leading};
+ghost use Rattle.yasna_base.specs.Length.{shortest_length};
 
-use crate::der_element::DerElement;
-use crate::error::ConvertError;
-use std::alloc::Global;
-use yasna::encode_der;
-use yasna_base::models::TaggedDerValue;
-use yasna_base::tag::{PCBit, Tag};
+use std::alloc::AllocError;
 
-/// The element with this tag and these contents.
-pub fn element(
-    alloc: Global,
-    tag: Tag,
-    bit: PCBit,
-    contents: Vec<u8>,
-) -> Result<DerElement, ConvertError>
-    ensures tag { IfOk result (λ p. p.tag ≡ tag) }
-    ensures bytes { IfOk result (λ p. p.bytes.items ≡ canonical_element Der tag bit contents.items) }
-    ensures memory { IfErr result (λ e. e ≡ Memory) }
+// Bytes without the zeros in front.
+fn without_zeros(bytes: &[u8]) -> &[u8]
+    ensures { result.now ≡ trim_leading 0 bytes.now }
 {
-    let value = TaggedDerValue::from_tag_pc_and_bytes(tag, bit, contents);
-    match encode_der(alloc, &value) {
-        Ok(bytes) => Ok(DerElement { tag, bytes }),
-        Err(_) => Err(ConvertError::Memory),
+    let mut rest = bytes;
+    while let Some((first, tail)) = rest.split_first() {
+        if *first != 0 {
+            return rest;
+        }
+        rest = tail;
     }
+    rest
 }
 
-/// The bytes of elements, one after the other.
-pub fn joined(alloc: Global, parts: &[DerElement]) -> Result<Vec<u8>, ConvertError>
-    ensures bytes { IfOk result (λ bytes. bytes.items ≡ flat_map (λ p. p.bytes.items) parts.now) }
-    ensures memory { IfErr result (λ e. e ≡ Memory) }
+// Appends a length in the fewest bytes (X.690, 10.1).
+#[tactic(auto, using(yasna_base::proofs::Length::short_length))]
+fn push_length(out: &mut Vec<u8>, length: usize) -> Result<(), AllocError>
+    ensures { OnOk result (out.new.items ≡ out.old.items ++ shortest_length length) }
 {
-    let mut bytes = Vec::new(alloc);
-    for part in parts {
-        bytes.extend_from_slice(&part.bytes)?;
+    if length < 128 {
+        out.push(length as u8)?;
+        return Ok(());
     }
-    Ok(bytes)
+    let bytes = length.to_be_bytes();
+    let digits = without_zeros(&bytes);
+    out.push(128 + digits.len() as u8)?;
+    out.extend_from_slice(digits)?;
+    Ok(())
+}
+
+/// Appends an element: this identifier, a length, and contents of two pieces.
+pub fn append_element(
+    out: &mut Vec<u8>,
+    identifier: &[u8],
+    prefix: &[u8],
+    contents: &[u8],
+) -> Result<(), AllocError>
+    ensures { OnOk result (out.new.items ≡ out.old.items ++ (identifier.now ++ (shortest_length (length (prefix.now ++ contents.now)) ++ (prefix.now ++ contents.now)))) }
+{
+    out.extend_from_slice(identifier)?;
+    push_length(out, prefix.len() + contents.len())?;
+    out.extend_from_slice(prefix)?;
+    out.extend_from_slice(contents)
+}
+
+/// Puts a header before the contents that begin at a place: this identifier, and their length.
+pub fn enclose_contents(
+    out: &mut Vec<u8>,
+    start: usize,
+    identifier: &[u8],
+) -> Result<(), AllocError>
+    requires { start ≤ length out.old.items }
+    ensures { OnOk result (out.new.items ≡ take start out.old.items ++ (identifier.now ++ (shortest_length (length (drop start out.old.items)) ++ drop start out.old.items))) }
+{
+    let end = out.len();
+    out.extend_from_slice(identifier)?;
+    push_length(out, end - start)?;
+    let header = out.len() - end;
+    let bytes = out.as_mut_slice();
+    bytes[start..].rotate_right(header);
+    Ok(())
 }

@@ -1,5 +1,5 @@
 use Rattle.std.proofs.Common.{◌≡◌, ◌+◌, ◌*◌, length}
-use Rattle.asn1der_convert.proofs.Ambiguities.{Walked}
+use Rattle.asn1der_convert.proofs.Ambiguities.{Written}
 use Rattle.asn1der_convert.proofs.conversion.+conversion.Given as goal
 
 abbrev pub decreases-convert_contents : goal.decreases-convert_contents
@@ -18,7 +18,7 @@ abbrev pub invariant-convert_contents-loop-after : goal.invariant-convert_conten
 invariant-convert_contents-loop-after l = record {
   mode : l.place.mode ≡ l.contents.mode;
   levels : l.place.levels ≡ l.contents.levels;
-  walked : Walked l.contents.levels l.contents.mode l.contents.left.now l.parts.items l.place.left.now l.initial.ambiguities l.ambiguities;
+  written : Written l.contents.levels l.contents.mode l.contents.left.now l.place.left.now l.initial.out.items l.out.items l.initial.ambiguities l.ambiguities;
 }
 
 abbrev pub decreases-convert_contents-loop-after : goal.decreases-convert_contents-loop-after

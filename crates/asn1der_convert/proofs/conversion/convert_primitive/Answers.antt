@@ -1,4 +1,4 @@
-use Rattle.std.proofs.Common.{subst, sym, ap, ◌∙◌, ◌++◌}
+use Rattle.std.proofs.Common.{subst, sym, ap, ◌∙◌}
 use Rattle.yasna_base.specs.Header.{OpensAt}
 use Rattle.yasna_base.specs.declared.mode.BERMode.{BERMode}
 use Rattle.yasna_base.specs.declared.mode.BERMode.TheVariants.{Ber}
@@ -6,33 +6,28 @@ use Rattle.yasna_base.specs.declared.tag.PCBit.TheVariants.{Primitive}
 use Rattle.yasna_bytes.specs.Opening.{Opening, end_found}
 use Rattle.asn1_contents.specs.Contents.{HasContents}
 use Rattle.asn1_contents.specs.ContentsType.{type_with}
-use Rattle.asn1der_convert.proofs.Parts.{primitive_part}
+use Rattle.asn1der_convert.proofs.Appends.{primitive_appended}
 use Rattle.asn1der_convert.proofs.Rejections.{no_primitive_contents}
 use Rattle.asn1der_convert.proofs.conversion.convert_primitive.Goals as goal
 
 pub returns-in-Ok : goal.returns-in-Ok
 returns-in-Ok c =
-    let copied = (c.in_ok-extend_from_slice.ensures {u = tt}).items ∙ ap (λ z. z ++ c.opened.inside.contents.now) c.new-contents.ensures.items ∙
-    ap (λ (o : Opening). o.contents) c.opened.view_is in
-    let found = c.in-Ok.ensures.bytes in
-    primitive_part c.args.cursor.levels c.args.cursor.mode c.args.tag c.args.cursor.left.now c.in-Definite.after.now c.args.opened.now.contents
-    found.contents c.in-Ok.part c.requires.level c.requires.other
+    let same = ap (λ (o : Opening). o.contents) c.opened.view_is in
+    primitive_appended c.args.cursor.levels c.args.cursor.mode c.args.tag c.args.cursor.left.now c.in-Definite.after.now c.args.opened.now.contents
+    c.opened.inside.contents.now c.args.out.now.items c.append_primitive.new.out.items c.requires.level c.requires.other
     (subst (λ e. OpensAt c.args.cursor.mode c.args.tag Primitive c.args.cursor.left.now c.args.opened.now.contents e)
     (ap (λ (o : Opening). o.end) (sym c.opened.view_is) ∙ ap end_found c.in-Definite.is)
     c.requires.opens)
-    (subst (λ (m : BERMode). HasContents (type_with c.args.tag) m found.contents c.args.opened.now.contents) (sym c.requires.mode)
-    (subst (λ z. HasContents (type_with c.args.tag) Ber found.contents z) copied found.meaning))
-    c.in-Ok.ensures.tag found.bytes
+    c.requires.mode same c.in-Ok.ensures.bytes
 
 pub returns-in-Err : goal.returns-in-Err
 returns-in-Err c = λ known.
-    let copied = (c.in_ok-extend_from_slice.ensures {u = tt}).items ∙ ap (λ z. z ++ c.opened.inside.contents.now) c.new-contents.ensures.items ∙
-    ap (λ (o : Opening). o.contents) c.opened.view_is in
+    let same = ap (λ (o : Opening). o.contents) c.opened.view_is in
     no_primitive_contents c.args.cursor.levels c.args.cursor.mode c.args.tag c.args.cursor.left.now c.args.opened.now.contents c.in-Definite.after.now
     c.requires.other.other
     (subst (λ e. OpensAt c.args.cursor.mode c.args.tag Primitive c.args.cursor.left.now c.args.opened.now.contents e)
     (ap (λ (o : Opening). o.end) (sym c.opened.view_is) ∙ ap end_found c.in-Definite.is)
     c.requires.opens)
     (λ d x. c.in-Err.ensures.rejection known d
-    (subst (λ z. HasContents (type_with c.args.tag) Ber d z) (sym copied)
+    (subst (λ z. HasContents (type_with c.args.tag) Ber d z) (sym same)
     (subst (λ (m : BERMode). HasContents (type_with c.args.tag) m d c.args.opened.now.contents) c.requires.mode x)))
