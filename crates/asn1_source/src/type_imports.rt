@@ -126,7 +126,7 @@ fn put_lines(
         word.put(name.law.as_slice());
         word.say(line.ending);
         if words.has(word.as_slice()) {
-            put_type_line(line.text, crate_of(name, krate), name, out);
+            put_type_line(line.text, crate_of(&*name, &*krate), name, out);
         }
     }
 }
