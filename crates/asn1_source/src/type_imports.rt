@@ -11,6 +11,7 @@
 use crate::imports::Words;
 use crate::terms::{TypeName, TypeNames};
 use crate::text::Text;
+use crate::type_source::{CrateSource, has_file};
 use std::alloc::Global;
 
 // A line that a source needs where a word is in its text.
@@ -169,13 +170,14 @@ pub fn put_all_laws(
     }
 }
 
-/// Appends the lines for all types that a text names, but for one of these names.
-pub fn put_all_types(own: &[u8], names: &TypeNames, words: &Words<'_>, out: &mut Text) {
+/// Appends the lines for all types that a text names, but for one of these names. A type without a file isn't there: its name is that of a variant.
+pub fn put_all_types(own: &[u8], source: &CrateSource<'_, '_>, words: &Words<'_>, out: &mut Text) {
+    let names = source.names;
     for place in names.order.iter() {
         let Some(name) = names.defined.get(*place) else {
             continue
         };
-        if name.name.as_slice() != own {
+        if name.name.as_slice() != own && has_file(source, *place) {
             put_type(name, words, out);
         }
     }

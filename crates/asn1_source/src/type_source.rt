@@ -174,7 +174,7 @@ pub fn put_source(
     out.put(clauses);
     out.say("\n");
     out.put(code);
-    put_all_types(own, source.names, &words, out);
+    put_all_types(own, source, &words, out);
     put_code_table(alloc, &words, out);
     out.say("\n");
     out.put(body.as_slice());

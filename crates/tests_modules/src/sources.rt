@@ -14,12 +14,19 @@ use std::process::Abort;
 /// A module, a file of its crate, and lines in that file. The file `list` is a line for each type.
 type Row = (&'static [u8], &'static str, &'static str);
 
-// A CHOICE: why no encoding of an alternative that is EXPLICIT or a list is empty.
-static CHOICES: [Row; 1] = [(
-    b"M DEFINITIONS IMPLICIT TAGS ::= BEGIN Pick ::= CHOICE { flag [0] EXPLICIT BOOLEAN, names SEQUENCE OF UTF8String, size [1] INTEGER, none NULL } END",
-    "src/pick.rt",
-    "      | Flag x ↦ element_non_empty _ _ _ _\n      | Names x ↦ element_non_empty _ _ _ _\n      | Size x ↦ (big_non_empty (Some (tag_or u (context 1)))) m x\n      | NoneVariant ↦ (null_non_empty u) m tt\n    ] };\n",
-)];
+// A CHOICE: why no encoding of an alternative that is EXPLICIT or a list is empty. An alternative has the name of a type without a file.
+static CHOICES: [Row; 2] = [
+    (
+        b"M DEFINITIONS IMPLICIT TAGS ::= BEGIN Pick ::= CHOICE { flag [0] EXPLICIT BOOLEAN, names SEQUENCE OF UTF8String, size [1] INTEGER, none NULL } END",
+        "src/pick.rt",
+        "      | Flag x ↦ element_non_empty _ _ _ _\n      | Names x ↦ element_non_empty _ _ _ _\n      | Size x ↦ (big_non_empty (Some (tag_or u (context 1)))) m x\n      | NoneVariant ↦ (null_non_empty u) m tt\n    ] };\n",
+    ),
+    (
+        b"M DEFINITIONS ::= BEGIN Count ::= INTEGER Pick ::= CHOICE { count Count, name UTF8String } END",
+        "src/pick.rt",
+        "\n\nuse yasna::{ASN1Result",
+    ),
+];
 
 // An extensible CHOICE: open, but not where tags have to distinguish it from what follows.
 static OPEN_CHOICES: [Row; 3] = [
