@@ -29,6 +29,16 @@ IMPORTS Report FROM First Flags FROM Second;
 Box ::= CHOICE { report Report, flags Flags }
 END
 """
+# A type that has the name of one that another module imports.
+FOURTH = """Fourth DEFINITIONS AUTOMATIC TAGS ::= BEGIN
+IMPORTS Flags FROM Second;
+Report ::= SEQUENCE { flags Flags }
+END
+Fifth DEFINITIONS AUTOMATIC TAGS ::= BEGIN
+Flags ::= SEQUENCE { flag BOOLEAN }
+Holder ::= SEQUENCE { flags Flags }
+END
+"""
 LOOSE = """Loose DEFINITIONS AUTOMATIC TAGS ::= BEGIN
 Known ::= SEQUENCE { flag BOOLEAN }
 Code ::= SEQUENCE {
@@ -164,6 +174,7 @@ MODULES = {
     "first": FIRST,
     "second": SECOND,
     "third": THIRD,
+    "fourth": FOURTH,
     "loose": LOOSE,
     "malformed": MALFORMED,
     "unknown": UNKNOWN,
@@ -215,6 +226,9 @@ def crates(folder):
     yield "their files", written(out / "some"), ["exports", "src/flags.rt", "src/lib.rt", "src/report.rt"]
     yield "the types that are exported", (out / "all/exports").read_text(), EXPORTS
     yield "types of another crate", run(folder, "--list", "--use", "all", "third.asn1"), (0, BOX, "")
+    yield "a type with an imported name", run(folder, "--crate", "two", "--use", "all", "fourth.asn1")[0], 0
+    yield "its name", "    pub flags: Flags2,\n" in (out / "two/src/holder.rt").read_text(), True
+    yield "the imported name", "    pub flags: Flags,\n" in (out / "two/src/report.rt").read_text(), True
     yield "no such crate", run(folder, "--list", "--use", "none", "third.asn1")[0], 3
     (out / "some/exports").write_text("First Report\n")
     yield "a list that is malformed", run(folder, "--list", "--use", "some", "third.asn1"), (1, "", IS_NO_LIST)

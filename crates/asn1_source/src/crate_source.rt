@@ -45,6 +45,7 @@ pub fn names_of(
     imported: Vec<TypeName>,
 ) -> Result<TypeNames, AllocError> {
     let mut used = UsedNames::new(alloc);
+    used.keep_imported(imported.as_slice())?;
     let mut names = TypeNames {
         defined: Vec::new(alloc),
         order: Vec::new(alloc),

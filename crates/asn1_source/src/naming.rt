@@ -26,13 +26,34 @@ fn distinct(names: &[Vec<u8>], mut name: Text) -> Text {
     name
 }
 
+// Whether a word with a digit after it is in a text.
+fn has_numbered(text: &[u8], word: &str) -> bool {
+    for start in 0..text.len() {
+        let Some(rest) = text.get(start..) else { break };
+        let Some(after) = rest.get(word.len()..) else {
+            break
+        };
+        if rest.starts_with(word.as_bytes())
+            && matches!(after, [digit, ..] if digit.is_ascii_digit())
+        {
+            return true;
+        }
+    }
+    false
+}
+
+// Whether a name may be that of what another type has in a file of its own: what is under its tags, or parts or alternatives after the first ones.
+fn is_piece(name: &[u8], untagged: &str, parts: &str, types: &str) -> bool {
+    name.ends_with(untagged.as_bytes()) || has_numbered(name, parts) || has_numbered(name, types)
+}
+
 // The name of a type: that of the module, as Rust writes names of types.
 fn type_text(alloc: Global, path: &[&[u8]]) -> Text {
     let mut text = Text::new(alloc);
     for name in path {
         put_camel(*name, &mut text);
     }
-    if is_taken(text.as_slice()) {
+    if is_taken(text.as_slice()) || is_piece(text.as_slice(), "Untagged", "Parts", "Types") {
         text.say("Type");
     }
     text
@@ -47,7 +68,9 @@ fn file_text(alloc: Global, path: &[&[u8]]) -> Text {
         }
         put_snake(*name, &mut text);
     }
-    if is_file_taken(text.as_slice()) {
+    if is_file_taken(text.as_slice())
+        || is_piece(text.as_slice(), "_untagged", "_parts", "_types")
+    {
         text.say("_type");
     }
     text
@@ -130,6 +153,18 @@ impl UsedNames {
             types: Vec::new(alloc),
             files: Vec::new(alloc),
         }
+    }
+
+    /// Keeps the names of types of other crates from those of definitions, which would be brought in beside them.
+    pub fn keep_imported(&mut self, imported: &[TypeName]) -> Result<(), AllocError> {
+        for name in imported {
+            let own = Vec::from_slice(self.alloc, name.name.as_slice())?;
+            let law = Vec::from_slice(self.alloc, name.law.as_slice())?;
+            if self.types.push(own).is_err() || self.files.push(law).is_err() {
+                return Err(AllocError);
+            }
+        }
+        Ok(())
     }
 
     // Takes a name for a type.

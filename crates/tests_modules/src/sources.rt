@@ -28,6 +28,20 @@ static CHOICES: [Row; 2] = [
     ),
 ];
 
+// Names that others have: that of what another type has in a file of its own, and those of specs.
+static NAMES: [Row; 2] = [
+    (
+        b"M DEFINITIONS AUTOMATIC TAGS ::= BEGIN Foo ::= SEQUENCE { a NULL, b NULL, c NULL, d NULL, e NULL, f NULL, g NULL } Foo-Parts2 ::= SEQUENCE { a NULL } END",
+        "src/foo_parts2_type.rt",
+        "pub struct FooParts2Type {\n",
+    ),
+    (
+        b"M DEFINITIONS ::= BEGIN Foo ::= [1] CHOICE { a NULL } FooUntagged ::= SEQUENCE { a NULL } END",
+        "src/lib.rt",
+        "mod foo;\nmod foo_untagged;\nmod foo_untagged_type;\n",
+    ),
+];
+
 // An extensible CHOICE: open, but not where tags have to distinguish it from what follows.
 static OPEN_CHOICES: [Row; 3] = [
     (
@@ -356,6 +370,11 @@ fn choices_are_written(rt: HostRuntime) {
     assert!(rt; first_missing(rt.alloc(), &CHOICES, &[]).is_none());
     assert!(rt; first_missing(rt.alloc(), &OPEN_CHOICES, &[]).is_none());
     assert!(rt; first_missing(rt.alloc(), &LONG_CHOICES, &[]).is_none());
+}
+
+#[test]
+fn names_are_written(rt: HostRuntime) {
+    assert!(rt; first_missing(rt.alloc(), &NAMES, &[]).is_none());
 }
 
 #[test]
