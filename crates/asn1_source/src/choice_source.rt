@@ -6,7 +6,7 @@ use crate::imports::Words;
 use crate::template::Fragments;
 use crate::terms::TypeNames;
 use crate::text::Text;
-use crate::words::is_taken;
+use crate::words::{is_taken, put_imported_variant};
 use std::alloc::{AllocError, Global};
 
 // Sets a mark to the alternatives as a listing says.
@@ -66,7 +66,7 @@ fn set_ghosts(fragments: &mut Fragments, source: &ChoiceSource<'_, '_>) {
             text.say(", ");
         }
         is_first = false;
-        text.put(variant.name.as_slice());
+        put_imported_variant(variant.name.as_slice(), &mut text);
         if variant.clashes {
             text.say(" as ");
             text.put(variant.name.as_slice());

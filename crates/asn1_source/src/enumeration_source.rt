@@ -4,9 +4,10 @@ use crate::template::Fragments;
 use crate::templates::{ENUMERATION, ENUMERATION_SPECS, OPEN_ENUMERATION_SPECS};
 use crate::terms::put_integer;
 use crate::text::Text;
+use crate::words::put_imported_variant;
 use asn1_types::model::{Enumeration, EnumerationItem, Integer};
 
-// Texts for each item, in which `@v` is its variant, `@n` its number, `@z` its number in clauses, `@N` the enum and `@P` its specs.
+// Texts for each item, in which `@v` is its variant, and `@g` in clauses, `@n` its number, and `@z` in clauses, `@N` the enum and `@P` its specs.
 struct ItemLine {
     named: &'static str,
     other: &'static str,
@@ -32,13 +33,13 @@ static VALUE_ARMS: ItemLine = ItemLine {
 };
 
 static NUMBER_LINES: ItemLine = ItemLine {
-    named: "@P_number @v = @z\n",
-    other: "@P_number (@v n) = n\n",
+    named: "@P_number @g = @z\n",
+    other: "@P_number (@g n) = n\n",
     end: "",
 };
 
 static WRITABLE_LINES: ItemLine = ItemLine {
-    named: "@P_writable @v = (λ u. (omega arith, refl), λ x. tt)\n",
+    named: "@P_writable @g = (λ u. (omega arith, refl), λ x. tt)\n",
     other: "",
     end: "",
 };
@@ -73,9 +74,38 @@ fn put_signed(number: i64, out: &mut Text) {
     out.put_number(number.unsigned_abs());
 }
 
+// Names in the specs of an ENUMERATED that a variant may have.
+static SPECS_NAMES: [&str; 6] = [
+    "Bool",
+    "DetectsDefault",
+    "FitsSigned",
+    "List",
+    "Type",
+    "Unit",
+];
+
+// Whether the specs need another name for a variant: theirs have it, or the enum has.
+fn clashes(variant: &[u8], name: &[u8]) -> bool {
+    for word in SPECS_NAMES.as_slice() {
+        if word.as_bytes() == variant {
+            return true;
+        }
+    }
+    variant == name
+}
+
+// Appends the name of a variant in clauses.
+fn put_ghost(variant: &[u8], name: &[u8], out: &mut Text) {
+    out.put(variant);
+    if clashes(variant, name) {
+        out.say("Variant");
+    }
+}
+
 fn put_mark(mark: u8, item: Item<'_>, out: &mut Text) {
     match mark {
         b'v' => out.put(item.variant),
+        b'g' => put_ghost(item.variant, item.name, out),
         b'n' => put_signed(item.number, out),
         b'z' => put_integer(integer(item.number), out),
         b'N' => out.put(item.name),
@@ -172,16 +202,20 @@ fn set_items(
     fragments.set(mark, text);
 }
 
-// Sets `G` to the names of the variants.
-fn set_names(fragments: &mut Fragments, variants: &[Vec<u8>]) {
+// Sets `G` to the names of the variants, and to those in clauses where they are others.
+fn set_names(fragments: &mut Fragments, source: &EnumerationSource<'_, '_>) {
     let mut text = fragments.text();
     let mut is_first = true;
-    for variant in variants {
+    for variant in source.variants {
         if !is_first {
             text.say(", ");
         }
         is_first = false;
-        text.put(variant.as_slice());
+        put_imported_variant(variant.as_slice(), &mut text);
+        if clashes(variant.as_slice(), source.name) {
+            text.say(" as ");
+            put_ghost(variant.as_slice(), source.name, &mut text);
+        }
     }
     fragments.set(b'G', text);
 }
@@ -192,7 +226,7 @@ pub fn set_enumeration(fragments: &mut Fragments, source: &EnumerationSource<'_,
     set_items(fragments, b'I', &VARIANT_LINES, source);
     set_items(fragments, b'1', &NUMBER_ARMS, source);
     set_items(fragments, b'2', &VALUE_ARMS, source);
-    set_names(fragments, source.variants);
+    set_names(fragments, source);
     set_items(fragments, b'3', &NUMBER_LINES, source);
     set_items(fragments, b'4', &WRITABLE_LINES, source);
     set_items(fragments, b'5', &LISTED_NUMBERS, source);

@@ -8,6 +8,7 @@ use crate::templates::{ITEM_CLAUSES, ITEM_DEFAULT, LIST_CLAUSES};
 use crate::terms::{Aspect, TypeName, put_integer};
 use crate::tested_types::put_tested_types;
 use crate::type_source::CrateSource;
+use crate::words::put_imported_variant;
 use asn1_types::model::{Body, DefaultValue, Enumeration, Integer, Notation, Presence};
 use std::alloc::{AllocError, Global};
 
@@ -39,7 +40,7 @@ fn place_of(enumeration: &Enumeration<'_>, number: i64) -> usize {
     enumeration.items.len()
 }
 
-// Sets `v` to the variant of an item.
+// Sets `v` to the variant of an item, and `V` to it where a clause brings it in.
 fn set_variant(
     alloc: Global,
     fragments: &mut Fragments,
@@ -56,6 +57,9 @@ fn set_variant(
         None => b"",
     };
     fragments.set_octets(b'v', variant);
+    let mut imported = fragments.text();
+    put_imported_variant(variant, &mut imported);
+    fragments.set(b'V', imported);
     Ok(())
 }
 

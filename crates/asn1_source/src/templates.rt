@@ -400,9 +400,9 @@ impl DefaultValue<@B> for @X {
 }
 ";
 
-/// What the source of such a default brings in.
+/// What the source of such a default brings in. `@V` is the variant where a clause brings it in.
 pub static ITEM_CLAUSES: &str =
-    "ghost use Rattle.@K.specs.declared.@F.@C.TheVariants.{@v as @XValue};\n";
+    "ghost use Rattle.@K.specs.declared.@F.@C.TheVariants.{@V as @XValue};\n";
 
 /// The value of a default of an OBJECT IDENTIFIER. `@X` is its type, `@f` the field, `@n` the arcs in clauses, `@r` in Rust.
 pub static IDENTIFIER_DEFAULT: &str = "

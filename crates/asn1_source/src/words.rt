@@ -14,8 +14,30 @@ static RESERVED: [&str; 68] = [
     "m", "v", "tt",
 ];
 
+// More words that clauses reserve.
+static RESERVED_IN_CLAUSES: [&str; 18] = [
+    "abbrev",
+    "axiom",
+    "coe",
+    "com",
+    "deriving",
+    "elim",
+    "fcoe",
+    "hcom",
+    "infix",
+    "infixl",
+    "infixr",
+    "module",
+    "mutual",
+    "package",
+    "tcoe",
+    "unfold",
+    "unfoldable",
+    "unfolding",
+];
+
 // Names that the sources themselves use.
-static TAKEN: [&str; 109] = [
+static TAKEN: [&str; 110] = [
     "ASN1Result",
     "Alternatives",
     "Any",
@@ -121,6 +143,7 @@ static TAKEN: [&str; 109] = [
     "TestedOctets",
     "TestedText",
     "TextValue",
+    "Type",
     "Types",
     "UTCTime",
     "Universal",
@@ -218,10 +241,19 @@ pub fn put_snake(name: &[u8], out: &mut Text) {
 
 /// Whether Rust or Rattle reserves a word.
 pub fn is_reserved(word: &[u8]) -> bool {
-    is_among(RESERVED.as_slice(), word)
+    is_among(RESERVED.as_slice(), word) || is_among(RESERVED_IN_CLAUSES.as_slice(), word)
 }
 
 /// Whether the sources themselves use the name of a type.
 pub fn is_taken(name: &[u8]) -> bool {
     is_among(TAKEN.as_slice(), name)
+}
+
+/// Appends the name of a variant where a clause brings it in. `Type` is reserved there.
+pub fn put_imported_variant(name: &[u8], out: &mut Text) {
+    if name == b"Type".as_slice() {
+        out.say("«Type»");
+    } else {
+        out.put(name);
+    }
 }

@@ -29,7 +29,7 @@ static CHOICES: [Row; 2] = [
 ];
 
 // Names that others have: that of what another type has in a file of its own, and those of specs.
-static NAMES: [Row; 2] = [
+static NAMES: [Row; 6] = [
     (
         b"M DEFINITIONS AUTOMATIC TAGS ::= BEGIN Foo ::= SEQUENCE { a NULL, b NULL, c NULL, d NULL, e NULL, f NULL, g NULL } Foo-Parts2 ::= SEQUENCE { a NULL } END",
         "src/foo_parts2_type.rt",
@@ -39,6 +39,26 @@ static NAMES: [Row; 2] = [
         b"M DEFINITIONS ::= BEGIN Foo ::= [1] CHOICE { a NULL } FooUntagged ::= SEQUENCE { a NULL } END",
         "src/lib.rt",
         "mod foo;\nmod foo_untagged;\nmod foo_untagged_type;\n",
+    ),
+    (
+        b"M DEFINITIONS ::= BEGIN Kind ::= ENUMERATED { kind, list, other } END",
+        "specs/Kind.antt",
+        "TheVariants.{Kind as KindVariant, List as ListVariant, Other}\n",
+    ),
+    (
+        b"M DEFINITIONS ::= BEGIN Kind ::= ENUMERATED { kind, list, other } END",
+        "specs/Kind.antt",
+        "kind_number KindVariant = (pos 0)\nkind_number ListVariant = (pos 1)\nkind_number Other = (pos 2)\n",
+    ),
+    (
+        b"M DEFINITIONS ::= BEGIN Pick ::= CHOICE { type NULL, name UTF8String } END",
+        "src/pick.rt",
+        "TheVariants.{«Type» as TypeVariant, Name};\n",
+    ),
+    (
+        b"M DEFINITIONS ::= BEGIN Package ::= SEQUENCE { module NULL } END",
+        "src/package_type.rt",
+        "pub struct Package {\n    pub the_module: (),\n}\n",
     ),
 ];
 
