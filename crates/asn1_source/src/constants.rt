@@ -24,7 +24,9 @@ fn constant_name(alloc: Global, constant: &Constant<'_>) -> Text {
 
 // Appends the value of a number.
 fn put_integer(number: Integer, out: &mut Text) {
-    if number.is_negative {
+    if number.is_negative && number.magnitude > 9223372036854775808 {
+        out.say("i128 = -");
+    } else if number.is_negative {
         out.say("i64 = -");
     } else if number.magnitude > 9223372036854775807 {
         out.say("u64 = ");
@@ -50,6 +52,39 @@ fn put_arcs(arcs: &[u64], out: &mut Text) {
     out.say("]");
 }
 
+// Appends the characters of a string as Rust writes them. `""` is one quotation mark, and spaces around the end of a line are no part of the
+// string (X.680, 12.14).
+fn put_characters(text: &[u8], out: &mut Text) {
+    let mut spaces = 0usize;
+    let mut is_quoted = false;
+    let mut is_begun = true;
+    for octet in text {
+        match *octet {
+            b' ' => {
+                spaces = spaces.saturating_add(1);
+                continue;
+            }
+            b'\n' | b'\r' => {
+                spaces = 0;
+                is_begun = false;
+                continue;
+            }
+            _ => {}
+        }
+        out.repeat(" ", if is_begun { spaces } else { 0 });
+        spaces = 0;
+        is_begun = true;
+        is_quoted = *octet == b'"' && !is_quoted;
+        match *octet {
+            b'\\' => out.say("\\\\"),
+            b'"' if !is_quoted => {}
+            b'"' => out.say("\\\""),
+            other => out.put_octet(other),
+        }
+    }
+    out.repeat(" ", if is_begun { spaces } else { 0 });
+}
+
 // Appends the type and the value of a constant.
 fn put_value(value: &Value<'_>, out: &mut Text) {
     match value {
@@ -63,7 +98,7 @@ fn put_value(value: &Value<'_>, out: &mut Text) {
         Value::ObjectIdentifier(arcs) => put_arcs(arcs.as_slice(), out),
         Value::Text(text) => {
             out.say("&str = \"");
-            out.put(*text);
+            put_characters(*text, out);
             out.say("\"");
         }
     }

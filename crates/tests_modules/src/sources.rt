@@ -62,6 +62,20 @@ static NAMES: [Row; 6] = [
     ),
 ];
 
+// Constants that Rust writes in another way than the module: quotation marks, ends of lines, and a number that no `i64` holds.
+static CONSTANTS: [Row; 2] = [
+    (
+        b"M DEFINITIONS ::= BEGIN text UTF8String ::= \" a\"\"b\\c  \n  d \" END",
+        "src/constants.rt",
+        "pub const TEXT: &str = \" a\\\"b\\\\cd \";\n",
+    ),
+    (
+        b"M DEFINITIONS ::= BEGIN low INTEGER ::= -9223372036854775808 lower INTEGER ::= -9223372036854775809 END",
+        "src/constants.rt",
+        "pub const LOW: i64 = -9223372036854775808;\n\n/// `lower`.\npub const LOWER: i128 = -9223372036854775809;\n",
+    ),
+];
+
 // An extensible CHOICE: open, but not where tags have to distinguish it from what follows.
 static OPEN_CHOICES: [Row; 3] = [
     (
@@ -395,6 +409,7 @@ fn choices_are_written(rt: HostRuntime) {
 #[test]
 fn names_are_written(rt: HostRuntime) {
     assert!(rt; first_missing(rt.alloc(), &NAMES, &[]).is_none());
+    assert!(rt; first_missing(rt.alloc(), &CONSTANTS, &[]).is_none());
 }
 
 #[test]
