@@ -18,7 +18,7 @@ use crate::plain::{at, builtin_notation, constrained, list_of, recursive, tagged
 use crate::problem::{Problem, ProblemKind, Stop, problem_at};
 use crate::resolver::{Resolver, State, add_definition, begin, set_state, state_of, take_looser};
 use crate::scope::{
-    AssignmentPlace, Meaning, assigned_name, assignment_at, parameters_of, type_assigned,
+    AssignmentPlace, Meaning, Scope, assigned_name, assignment_at, parameters_of, type_assigned,
 };
 use crate::tokens::is;
 use asn1_syntax::Token;
@@ -189,12 +189,7 @@ fn reference<'a>(
     assign(r, place, depth)?;
     match state_of(r, place) {
         State::Defined(index) => Ok(Notation::Defined(index)),
-        State::Alias(index) => {
-            set_state(r, place, State::Open);
-            let notation = notation(r, assigned, depth)?;
-            set_state(r, place, State::Alias(index));
-            Ok(notation)
-        }
+        State::Alias(index) => aliased(r, assigned, place, index, depth),
         State::Open => {
             let inner = core(r.scope, assigned, false)?;
             recursive(r, place_of(user), inner)
@@ -204,6 +199,32 @@ fn reference<'a>(
             kind: ProblemKind::RejectedType,
             other: None,
         })),
+    }
+}
+
+// The notation of a name for a notation. The parameters in it are those of its own assignment (X.683, 8.4).
+#[cycle(types)]
+fn aliased<'a>(
+    r: &mut Resolver<'a>,
+    assigned: TypeAt<'a>,
+    place: AssignmentPlace,
+    index: usize,
+    depth: usize,
+) -> Result<Notation, Stop> {
+    let own = parameters_at(r.scope, place);
+    let before = std::mem::replace(&mut r.work.parameters, own);
+    set_state(r, place, State::Open);
+    let outcome = notation(r, assigned, depth);
+    set_state(r, place, State::Alias(index));
+    r.work.parameters = before;
+    outcome
+}
+
+// The parameters of the assignment at a place.
+fn parameters_at<'a>(scope: Scope<'a>, place: AssignmentPlace) -> &'a [Token<'a>] {
+    match assignment_at(scope.modules, place) {
+        Some(assignment) => parameters_of(assignment),
+        None => &[],
     }
 }
 

@@ -100,7 +100,7 @@ static NAMES: [Row; 4] = [
 ];
 
 // Open types (X.681, 14) and parameters (X.683).
-static OPEN: [Row; 2] = [
+static OPEN: [Row; 3] = [
     (
         b"M DEFINITIONS AUTOMATIC TAGS ::= BEGIN C ::= CLASS { &id OBJECT IDENTIFIER UNIQUE, &Type OPTIONAL } WITH SYNTAX { ID &id } A { C:Set } ::= SEQUENCE { a C.&id ({Set}), b C.&Type ({Set}{@a}) OPTIONAL } B ::= SEQUENCE { c A {{d}} } e C ::= { ID {1 2 3} } END",
         "A. SEQUENCE a [0 I] OID, b [1 E] ANY OPTIONAL, !constraint !open !constraint\nB. SEQUENCE c [0 I] #0,\n",
@@ -108,6 +108,10 @@ static OPEN: [Row; 2] = [
     (
         b"M DEFINITIONS ::= BEGIN SIGNED { ToBeSigned, INTEGER:n } ::= SEQUENCE { a ToBeSigned, b INTEGER (0..n) } B ::= SIGNED { C, 3 } C ::= NULL END",
         "SIGNED. SEQUENCE a ANY, b INTEGER, !parameter !constraint\nB. = #0\nC. = NULL\n",
+    ),
+    (
+        b"M DEFINITIONS ::= BEGIN A {X} ::= X B ::= X C {X} ::= SEQUENCE { a X, b B, c A {X} } D ::= SEQUENCE { d A {NULL} } X ::= INTEGER END",
+        "A. = ANY !parameter\nX. = INTEGER\nB. = INTEGER\nC. SEQUENCE a ANY, b INTEGER, c ANY, !parameter !parameter\nD. SEQUENCE d ANY, !parameter\n",
     ),
 ];
 

@@ -22,6 +22,9 @@ decreases-definition l = 8 * l.depth + 4
 abbrev pub decreases-assign : goal.decreases-assign
 decreases-assign l = 8 * l.depth + 5
 
+abbrev pub decreases-aliased : goal.decreases-aliased
+decreases-aliased l = 8 * l.depth + 5
+
 abbrev pub decreases-reference : goal.decreases-reference
 decreases-reference l = 8 * l.depth + 6
 
