@@ -1,14 +1,16 @@
 """What ci/module_coverage.sh runs: `asn1compile --list` over the module files of packages, and two tables of what it said.
 
-The files of a folder are resolved together, since modules import from those beside them, but for files that aren't modules of ASN.1.
+The files of a folder are resolved together, but for files that aren't modules of ASN.1. Beside them are the files of the same package whose modules
+they import from, or these in turn: those of a module whose name no other file of the package has. Only types of the folder's own files are counted.
 """
 
 import re
 import subprocess
 import sys
-from collections import Counter
+from collections import Counter, defaultdict
 from concurrent.futures import ThreadPoolExecutor
 from dataclasses import dataclass, field
+from functools import cache
 from pathlib import Path
 
 ENDINGS = (".asn", ".asn1")
@@ -16,6 +18,14 @@ SECONDS = 600
 # A line of standard error that names a place.
 PLACE = re.compile(r"^(?P<file>.*?):\d+:\d+: (?P<why>.*)$", re.MULTILINE)
 OTHER = "the other one is here"
+# A comment of X.680, 12.6.
+COMMENT = re.compile(r"/\*.*?\*/|--.*?(?:--|$)", re.DOTALL | re.MULTILINE)
+MODULE = re.compile(r"([A-Z][\w-]*)\s*(?:\{[^{}]*\}\s*)?DEFINITIONS\b")
+IMPORTS = re.compile(r"\bIMPORTS\b(.*?);", re.DOTALL)
+FROM = re.compile(r"\bFROM\s+([A-Z][\w-]*)")
+# What is assigned: a type, or the type of a value.
+ASSIGNED = re.compile(r"([A-Z][\w-]*)\s*(?:\{[^{}]*\}\s*)?::=")
+LISTED = re.compile(r"^(?P<name>[\w-]+).*?: (?:exact|accepts more|rejects additions)\b.*$", re.MULTILINE)
 
 
 @dataclass
@@ -33,8 +43,47 @@ class Counts:
         return sum(self.reasons.values())
 
 
+@cache
+def text_of(path):
+    """The text of a file without comments."""
+    return COMMENT.sub(" ", path.read_text(errors="replace"))
+
+
+def names_in(pattern, files):
+    return {name for path in files for name in pattern.findall(text_of(path))}
+
+
+def imported_by(files):
+    """The names of the modules that files import from."""
+    return {name for path in files for words in IMPORTS.findall(text_of(path)) for name in FROM.findall(words)}
+
+
+def homes_of(files):
+    """The files that have a module of each name."""
+    homes = defaultdict(list)
+    for path in files:
+        for name in names_in(MODULE, [path]):
+            homes[name].append(path)
+    return homes
+
+
+def beside(files, homes):
+    """The files elsewhere in the package that these import from, and those that they import from in turn."""
+    more = []
+    wanted = imported_by(files) - names_in(MODULE, files)
+    while wanted:
+        found = sorted({homes[name][0] for name in wanted if len(homes.get(name, ())) == 1} - {*files, *more})
+        more += found
+        wanted = imported_by(found) - names_in(MODULE, [*files, *more])
+    return more
+
+
+@cache
 def listed(program, files):
-    """What the program prints of these files on its two outputs, or None where it takes too long."""
+    """What the program prints of these files on its two outputs, or None where it takes too long.
+
+    Folders that import from one another have the same files, and share a run.
+    """
     try:
         ran = subprocess.run([program, "--list", "--use", "x509", *files], capture_output=True, timeout=SECONDS)
     except subprocess.TimeoutExpired:
@@ -47,29 +96,50 @@ def malformed(said):
     return {it["file"] for it in PLACE.finditer(said[1]) if it["why"].startswith("expected")}
 
 
-def count_folder(program, counts, files):
-    """Counts the types of the modules of a folder."""
-    counts.files += len(files)
+def resolved(program, files):
+    """What the program prints of these files but for those that aren't modules, and which are left."""
     said = listed(program, files)
     rejected = malformed(said) if said else set()
-    parsed = [it for it in files if str(it) not in rejected]
-    counts.parsed += len(parsed)
-    if rejected and parsed:
-        said = listed(program, parsed)
+    parsed = tuple(it for it in files if str(it) not in rejected)
+    if rejected:
+        said = listed(program, parsed) if parsed else ("", "")
+    return said, parsed
+
+
+def own_lines(program, said, own, others):
+    """The lines of the types of these files, where the types of the others are listed with them."""
+    assigned = names_in(ASSIGNED, own)
+    lines = Counter(it[0] for it in LISTED.finditer(said[0]) if it["name"] in assigned)
+    if assigned & names_in(ASSIGNED, others):
+        alone = listed(program, tuple(others))
+        lines -= Counter(it[0] for it in LISTED.finditer(alone[0] if alone else ""))
+    return list(lines.elements())
+
+
+def count_folder(program, counts, files, homes):
+    """Counts the types of the modules of a folder."""
+    counts.files += len(files)
+    said, parsed = resolved(program, tuple(sorted(files + beside(files, homes))))
+    own = [it for it in parsed if it in files]
+    counts.parsed += len(own)
     if said is None:
         counts.reasons[f"no end after {SECONDS} seconds"] += 1
         return
-    counts.exact += len(re.findall(r": exact\b", said[0]))
-    counts.more += said[0].count(": accepts more")
-    counts.closed += said[0].count(": rejects additions")
-    counts.reasons.update(it["why"] for it in PLACE.finditer(said[1]) if it["why"] != OTHER and parsed)
+    for line in own_lines(program, said, own, [it for it in parsed if it not in files]):
+        counts.exact += ": exact" in line
+        counts.more += ": accepts more" in line
+        counts.closed += ": rejects additions" in line
+    names = {*map(str, own)}
+    counts.reasons.update(it["why"] for it in PLACE.finditer(said[1]) if it["why"] != OTHER and it["file"] in names)
 
 
 def count_package(program, package):
     """What is said of the modules below a folder. Standard error has the counts so far, after each folder with modules."""
     counts = Counts()
-    for folder in sorted({it.parent for it in package.rglob("*") if is_module_file(it)}):
-        count_folder(program, counts, sorted(it for it in folder.iterdir() if is_module_file(it)))
+    files = sorted(it for it in package.rglob("*") if is_module_file(it))
+    homes = homes_of(files)
+    for folder in sorted({it.parent for it in files}):
+        count_folder(program, counts, [it for it in files if it.parent == folder], homes)
         print(f"{folder}: {counts}", file=sys.stderr, flush=True)
     return counts
 
