@@ -47,13 +47,17 @@ fn is_piece(name: &[u8], untagged: &str, parts: &str, types: &str) -> bool {
     name.ends_with(untagged.as_bytes()) || has_numbered(name, parts) || has_numbered(name, types)
 }
 
-// The name of a type: that of the module, as Rust writes names of types.
+// The name of a type: that of the module, as Rust writes names of types. The type of a default has a name that ends in `Default`.
 fn type_text(alloc: Global, path: &[&[u8]]) -> Text {
     let mut text = Text::new(alloc);
     for name in path {
         put_camel(*name, &mut text);
     }
-    if is_taken(text.as_slice()) || is_piece(text.as_slice(), "Untagged", "Parts", "Types") {
+    let name = text.as_slice();
+    if is_taken(name)
+        || name.ends_with(b"Default")
+        || is_piece(name, "Untagged", "Parts", "Types")
+    {
         text.say("Type");
     }
     text
@@ -120,14 +124,14 @@ static LAW_NAMES: [&str; 40] = [
     "utc",
 ];
 
-// Whether a file can't have a name.
+// Whether a file can't have a name: words and libraries have it.
 fn is_file_taken(name: &[u8]) -> bool {
     for word in LAW_NAMES.as_slice() {
         if word.as_bytes() == name {
             return true;
         }
     }
-    is_reserved(name)
+    is_reserved(name) || name.starts_with(b"yasna_")
 }
 
 fn is_enumeration(body: &Body<'_>) -> bool {
@@ -155,12 +159,20 @@ impl UsedNames {
         }
     }
 
-    /// Keeps the names of types of other crates from those of definitions, which would be brought in beside them.
+    /// Reserves the names of types of other crates, and of these crates. A file may bring them in beside those of definitions.
     pub fn keep_imported(&mut self, imported: &[TypeName]) -> Result<(), AllocError> {
         for name in imported {
             let own = Vec::from_slice(self.alloc, name.name.as_slice())?;
             let law = Vec::from_slice(self.alloc, name.law.as_slice())?;
-            if self.types.push(own).is_err() || self.files.push(law).is_err() {
+            let origin = match &name.origin {
+                Some(origin) => origin.as_slice(),
+                None => b"",
+            };
+            let origin = Vec::from_slice(self.alloc, origin)?;
+            if self.types.push(own).is_err()
+                || self.files.push(law).is_err()
+                || self.files.push(origin).is_err()
+            {
                 return Err(AllocError);
             }
         }

@@ -29,7 +29,7 @@ static CHOICES: [Row; 2] = [
 ];
 
 // Names that others have: that of what another type has in a file of its own, and those of specs.
-static NAMES: [Row; 6] = [
+static NAMES: [Row; 8] = [
     (
         b"M DEFINITIONS AUTOMATIC TAGS ::= BEGIN Foo ::= SEQUENCE { a NULL, b NULL, c NULL, d NULL, e NULL, f NULL, g NULL } Foo-Parts2 ::= SEQUENCE { a NULL } END",
         "src/foo_parts2_type.rt",
@@ -39,6 +39,16 @@ static NAMES: [Row; 6] = [
         b"M DEFINITIONS ::= BEGIN Foo ::= [1] CHOICE { a NULL } FooUntagged ::= SEQUENCE { a NULL } END",
         "src/lib.rt",
         "mod foo;\nmod foo_untagged;\nmod foo_untagged_type;\n",
+    ),
+    (
+        b"M DEFINITIONS ::= BEGIN Kind ::= ENUMERATED { a } Box ::= SEQUENCE { kind Kind DEFAULT a, more KindDefault } KindDefault ::= SEQUENCE { a NULL } END",
+        "src/box_type.rt",
+        "    pub more: KindDefaultType,\n",
+    ),
+    (
+        b"M DEFINITIONS ::= BEGIN Yasna-Notation ::= SEQUENCE { a NULL } END",
+        "src/yasna_notation_type.rt",
+        "pub struct YasnaNotation {\n",
     ),
     (
         b"M DEFINITIONS ::= BEGIN Kind ::= ENUMERATED { kind, list, other } END",
