@@ -1,5 +1,5 @@
 -- More is resolved once a definition is added.
-use Rattle.std.proofs.Common.{◌≡◌, ◌∙◌, ◌∷◌, ◌++◌, ℕ, List, [], Result, Ok, Err, Some, sym, subst}
+use Rattle.std.proofs.Common.{◌≡◌, ◌∙◌, ◌∷◌, ◌++◌, ℕ, Bool, List, [], Result, Ok, Err, Some, sym, subst}
 use Rattle.std.specs.Global.{Vec}
 use Rattle.std.specs.List.{slice_get}
 use Rattle.std.specs.Result.{IfOk, OnErr}
@@ -13,12 +13,12 @@ use Rattle.asn1_types.specs.declared.model.Place.{Place}
 use Rattle.asn1_types.specs.declared.model.TagLayer.{TagLayer}
 use Rattle.asn1_types.specs.declared.problem.Stop.{Stop}
 use Rattle.asn1_types.specs.declared.resolver.Resolver.{Resolver}
-use Rattle.asn1_types.specs.Context.{Context, IsAdded, context_of}
+use Rattle.asn1_types.specs.Context.{Context, IsAdded, IsUnchanged, context_of}
 use Rattle.asn1_types.specs.Definitions.{Continues, IsBodyOf, IsDefinition, alias, inside, inside_enumerated, is_choice, value, with_body}
 use Rattle.asn1_types.specs.Layers.{AreLayers}
 use Rattle.asn1_types.specs.Notations.{IsAssigned, IsBody, IsNotation, in_place}
 use Rattle.asn1_types.specs.Tags.{environment_of}
-use Rattle.asn1_types.proofs.Growing.{added_grows, continues_added, continues_at, grow_body, grow_body_of, grow_notation}
+use Rattle.asn1_types.proofs.Growing.{added_grows, continues_added, continues_at, continues_then, continues_unchanged, grow_body, grow_body_of, grow_notation}
 use Rattle.asn1_types.proofs.Later.{there_at_end}
 use Rattle.asn1_syntax.specs.declared.token.Token.{Token}
 use Rattle.asn1_syntax.specs.declared.tree.Component.{Component}
@@ -99,3 +99,36 @@ module _ {a b : Context} {index assignment : ℕ} {place : Place} {tags : List T
       let there : slice_get b.definitions index ≡ Some added.definition =
       subst (λ (l : List Definition). slice_get l index ≡ Some added.definition) (sym added.definitions) at_end in
       in_place parts there (added.tags_are ∙ none) (body_there m word parts.items is)
+
+pub unchanged_then : {a b c : Resolver} → IsUnchanged a b → IsUnchanged b c → IsUnchanged a c
+unchanged_then g h = record { context = h.context ∙ g.context; assignment = h.assignment ∙ g.assignment }
+
+assigned_then : {a b : Resolver} {m : ℕ} {t : TypeNotation} → IsUnchanged a b → IsAssigned a.scope.modules.now m a.work.assignment t →
+    IsAssigned (context_of b).modules m b.work.assignment t
+assigned_then {a} {b} {m} {t} same assigned =
+    let in_modules : IsAssigned (context_of b).modules m a.work.assignment t =
+    subst (λ (k : Context). IsAssigned k.modules m a.work.assignment t) (sym same.context) assigned in
+    subst (λ (x : ℕ). IsAssigned (context_of b).modules m x t) (sym same.assignment) in_modules
+
+module _ {a b e : Resolver} {m index : ℕ} {t : TypeNotation} {place : Place} {tags : List TagLayer} {body : Body} (same : IsUnchanged a b)
+    (assigned : IsAssigned a.scope.modules.now m a.work.assignment t) (at : place.module ≡ m) (same_work : e.work.assignment ≡ b.work.assignment)
+    (added : IsAdded (context_of b) (context_of e) index place b.work.assignment tags body) where
+  pub continues_value : (n : Notation) → tags ≡ [] → body ≡ bodies.Value n → IsNotation (context_of a) m t n → Continues a e
+  continues_value n none is notation =
+      let then : IsNotation (context_of b) m t n = subst (λ (k : Context). IsNotation k m t n) (sym same.context) notation in
+      continues_then (continues_unchanged same) (continues_added added (is_value added m t n (assigned_then same assigned) at none is then) same_work)
+
+  pub continues_alias : (n : Notation) → tags ≡ [] → body ≡ bodies.Alias n → IsNotation (context_of a) m t n → Continues a e
+  continues_alias n none is notation =
+      let then : IsNotation (context_of b) m t n = subst (λ (k : Context). IsNotation k m t n) (sym same.context) notation in
+      continues_then (continues_unchanged same) (continues_added added (is_alias added m t n (assigned_then same assigned) at none is then) same_work)
+
+  pub continues_with_body : (flag : Bool) → flag ≡ is_choice body → AreLayers (environment_of a.scope.modules.now m) flag [] t tags →
+      IsBodyOf (context_of a) m t body → Continues a e
+  continues_with_body flag is layers body_is =
+      let of_flag : AreLayers (environment_of (context_of a).modules m) (is_choice body) [] t tags =
+      subst (λ (x : Bool). AreLayers (environment_of (context_of a).modules m) x [] t tags) is layers in
+      let then : AreLayers (environment_of (context_of b).modules m) (is_choice body) [] t tags =
+      subst (λ (k : Context). AreLayers (environment_of k.modules m) (is_choice body) [] t tags) (sym same.context) of_flag in
+      let body_then : IsBodyOf (context_of b) m t body = subst (λ (k : Context). IsBodyOf k m t body) (sym same.context) body_is in
+      continues_then (continues_unchanged same) (continues_added added (is_with_body added m t (assigned_then same assigned) at then body_then) same_work)

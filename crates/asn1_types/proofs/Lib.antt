@@ -3,3 +3,5 @@ pub mod Layered
 pub mod Later
 pub mod Growing
 pub mod Adding
+pub mod Steps
+pub mod Searches

@@ -8,6 +8,7 @@ pub mod Presence
 pub mod Parts
 pub mod Bounds
 pub mod Context
+pub mod Names
 pub mod Notations
 pub mod Definitions
 pub mod PartsOf

@@ -76,7 +76,7 @@ pub record IsAsItCame (n : Notation) : Type 0 where
 
 -- a type inside itself: as it came, under its outermost tag or without one
 pub data IsInItself (n : Notation) : Type 0 where
-  without_tag : IsWithoutTag n → IsInItself n
+  by_itself : IsWithoutTag n → IsInItself n
   under_its_tag : IsAsItCame n → IsInItself n
 
 -- a SET OF or a SEQUENCE OF, of an element in a box

@@ -24,7 +24,7 @@ use crate::problem::{Problem, ProblemKind, Stop, problem_of_two};
 use crate::resolver::{Resolver, environment, note};
 use crate::tags::{automatic_number, is_tagged_automatically};
 use crate::tags_of_types::{Distinction, check_tags};
-use crate::tokens::is_word;
+use crate::tokens::is;
 use asn1_syntax::Token;
 use asn1_syntax::tree::{Presence as WrittenPresence, TypeNotation};
 use std::alloc::{AllocError, Global};
@@ -201,7 +201,8 @@ fn presence_of<'a>(
     at: TypeAt<'a>,
     notation: &Notation,
 ) -> Result<Presence<'a>, Stop>
-    ensures { IfOk result (λ presence. KeepsPresence source.entry.presence.now presence) }
+    ensures unchanged { IsUnchanged r.old r.new }
+    ensures presence { IfOk result (λ presence. KeepsPresence source.entry.presence.now presence) }
 {
     match source.presence {
         WrittenPresence::Required => Ok(Presence::Required),
@@ -235,7 +236,8 @@ pub fn finished<'a>(
     notation: Notation,
     number: Option<usize>,
 ) -> Result<Part<'a>, Stop>
-    ensures { IfOk result (IsFinished r.new.scope.known.now r.new.tag_sets.items source.entry number notation) }
+    ensures unchanged { IsUnchanged r.old r.new }
+    ensures finished { IfOk result (IsFinished r.new.scope.known.now r.new.tag_sets.items source.entry number notation) }
 {
     let presence = presence_of(r, source, written, &notation)?;
     let notation = tagged_if(r, number, notation)?;
@@ -293,12 +295,12 @@ pub fn body_of<'a>(
     ensures { IfOk result (HasParts word.entry components.entry.parts.items) }
 {
     check_names(components.parts.as_slice())?;
-    if is_word(word, b"SEQUENCE") {
+    if is(word, b"SEQUENCE") {
         check_tags(r, components.parts.as_slice(), Distinction::InOrder)?;
         return Ok(Body::Sequence(components));
     }
     check_tags(r, components.parts.as_slice(), Distinction::InAnyOrder)?;
-    if is_word(word, b"SET") {
+    if is(word, b"SET") {
         return Ok(Body::Set(components));
     }
     if components.parts.is_empty() {

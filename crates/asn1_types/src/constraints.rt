@@ -1,4 +1,5 @@
 //! Constraints of numbers and sizes (X.680, 49 to 51).
+ghost use Rattle.asn1_types.specs.Bounds.{DiffersInBounds};
 
 use crate::integers::{UNBOUNDED, both_bounds, both_sizes, hull, joins, size_of};
 use crate::model::{Integer, IntegerBounds, Loosening, Notation, Size, TextKind};
@@ -231,34 +232,53 @@ pub fn constrain_list<'a>(
     names: Names<'a>,
     notation: &mut Notation,
     tokens: &'a [Token<'a>],
-) -> bool {
+) -> bool
+    ensures { DiffersInBounds notation.old notation.new }
+{
     match notation {
-        Notation::SequenceOf(_, size) | Notation::SetOf(_, size) => {
-            match sizes_within(names, tokens) {
-                Some(allowed) => {
-                    *size = both_sizes(*size, allowed.size);
-                    !allowed.is_exact
-                }
-                None => true,
-            }
-        }
+        Notation::SequenceOf(_, size) => constrain_items(names, size, tokens),
+        Notation::SetOf(_, size) => constrain_items(names, size, tokens),
         _ => true,
     }
 }
 
+// A size with the constraint after SIZE, before OF, or whether the constraint is omitted.
+fn constrain_items<'a>(names: Names<'a>, size: &mut Size, tokens: &'a [Token<'a>]) -> bool {
+    match sizes_within(names, tokens) {
+        Some(allowed) => {
+            *size = both_sizes(*size, allowed.size);
+            !allowed.is_exact
+        }
+        None => true,
+    }
+}
+
+// The size of a string with one more constraint, or whether the constraint is omitted.
+fn constrain_text<'a>(
+    names: Names<'a>,
+    kind: TextKind,
+    size: &mut Size,
+    tokens: &'a [Token<'a>],
+) -> bool {
+    let accepts_more = constrain_size(names, size, tokens);
+    accepts_more || matches!(kind, TextKind::Bmp)
+}
+
 /// Adds a constraint to a notation, and says whether the notation accepts more. Sizes of named bits and of a BMPString aren't tested.
-pub fn constrain<'a>(names: Names<'a>, notation: &mut Notation, tokens: &'a [Token<'a>]) -> bool {
+pub fn constrain<'a>(names: Names<'a>, notation: &mut Notation, tokens: &'a [Token<'a>]) -> bool
+    ensures { DiffersInBounds notation.old notation.new }
+{
     match notation {
         Notation::Integer(bounds, _) => constrain_numbers(names, bounds, tokens),
-        Notation::NamedBits(size, _) | Notation::Text(TextKind::Bmp, size) => {
+        Notation::NamedBits(size, _) => {
             let _ = constrain_size(names, size, tokens);
             true
         }
-        Notation::OctetString(size)
-        | Notation::BitString(size)
-        | Notation::Text(_, size)
-        | Notation::SequenceOf(_, size)
-        | Notation::SetOf(_, size) => constrain_size(names, size, tokens),
+        Notation::Text(kind, size) => constrain_text(names, *kind, size, tokens),
+        Notation::OctetString(size) => constrain_size(names, size, tokens),
+        Notation::BitString(size) => constrain_size(names, size, tokens),
+        Notation::SequenceOf(_, size) => constrain_size(names, size, tokens),
+        Notation::SetOf(_, size) => constrain_size(names, size, tokens),
         _ => true,
     }
 }

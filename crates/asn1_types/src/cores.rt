@@ -1,5 +1,7 @@
 //! The type that a name means, through names, tags and constraints.
-ghost use Rattle.std.specs.Prelude.{◌≡◌};
+ghost use Rattle.std.specs.Prelude.{◌≡◌, IfSome};
+ghost use Rattle.asn1_types.specs.Definitions.{IsWithin};
+ghost use Rattle.asn1_types.specs.Notations.{IsAssigned};
 ghost use Rattle.asn1_types.specs.Trees.{has_tag_before};
 
 use crate::builtins::builtin_of;
@@ -49,7 +51,9 @@ pub fn unconstrained<'a>(notation: &'a TypeNotation<'a>) -> &'a TypeNotation<'a>
 }
 
 /// A type without the tags before it and the constraints after it.
-pub fn untagged<'a>(notation: &'a TypeNotation<'a>) -> &'a TypeNotation<'a> {
+pub fn untagged<'a>(notation: &'a TypeNotation<'a>) -> &'a TypeNotation<'a>
+    ensures { IsWithin notation.now result.now }
+{
     let mut at = notation;
     loop {
         at = match at {
@@ -87,7 +91,10 @@ pub fn reference_meaning<'a>(
 }
 
 /// The type that an assignment gives a name.
-pub fn assigned_type<'a>(scope: Scope<'a>, place: AssignmentPlace) -> Option<TypeAt<'a>> {
+pub fn assigned_type<'a>(scope: Scope<'a>, place: AssignmentPlace) -> Option<TypeAt<'a>>
+    ensures assigned { IfSome result (λ at. IsAssigned scope.entry.modules.now place.module place.assignment at.notation.now) }
+    ensures module { IfSome result (λ at. at.module ≡ place.module) }
+{
     let notation = type_assigned(assignment_at(scope.modules, place)?)?;
     Some(TypeAt {
         module: place.module,

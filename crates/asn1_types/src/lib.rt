@@ -14,13 +14,14 @@
 //!   definitions that are there, so more definitions change none of it;
 //! - the body of a SEQUENCE, a SET or a CHOICE (`bodies::body_of`): it is of its word, and has all its parts in their order;
 //! - what a definition is added as (`resolver::add_definition`);
-//! - that the module of an import is the one after FROM.
+//! - that the module of an import is the one after FROM;
+//! - whole types and all definitions (`resolve`): each definition is that of an assigned type or of a type inside one, with the tags before its body,
+//!   and each notation in it is that of the type that a module writes, by the rules above (`AreResolved`, `IsNotation`).
 //!
-//! `specs/Notations.antt` and `specs/Definitions.antt` say all of this of whole types and of all definitions (`IsNotation`, `AreResolved`). No contract of
-//! `resolve` names them yet: only an ENUMERATED inside another type is proved to keep to them.
+//! The last of these leaves open which assignment a name means, the notation of a word such as INTEGER beyond that it has no tag that is written, the
+//! alternative of a selection type, which parts COMPONENTS OF adds, and the items of an ENUMERATED.
 //!
-//! Only tested are: that these are called for each type and each part; the number of a tag, and whether a name is that of an untagged CHOICE; what
-//! COMPONENTS OF adds to a list; and what names, values and constraints are resolved to.
+//! Only tested are these, the numbers of written tags, and what values and constraints are resolved to.
 //!
 //! | Module | Holds |
 //! |---|---|

@@ -1,5 +1,7 @@
 //! The types and values of modules.
-ghost use Rattle.asn1_types.specs.Context.{IsUnchanged};
+ghost use Rattle.std.specs.Prelude.{IfOk};
+ghost use Rattle.asn1_types.specs.Context.{IsUnchanged, resolved_of};
+ghost use Rattle.asn1_types.specs.Definitions.{AreResolved, Continues};
 
 use crate::constants::constants_of;
 use crate::model::{KnownType, Resolved};
@@ -43,7 +45,9 @@ fn resolve_assignment<'a>(
     module: &'a Module<'a>,
     place: AssignmentPlace,
     assignment: &'a Assignment<'a>,
-) -> Result<(), Stop> {
+) -> Result<(), Stop>
+    ensures { Continues r.old r.new }
+{
     check_name(r, module, place, assigned_name(assignment))?;
     assign(r, place, MAX_DEPTH)
 }
@@ -53,7 +57,9 @@ fn resolve_module<'a>(
     r: &mut Resolver<'a>,
     index: usize,
     module: &'a Module<'a>,
-) -> Result<(), Stop> {
+) -> Result<(), Stop>
+    ensures { Continues r.old r.new }
+{
     for (assignment, source) in module.assignments.iter().enumerate() {
         let place = AssignmentPlace {
             module: index,
@@ -65,7 +71,9 @@ fn resolve_module<'a>(
 }
 
 // The types and values of modules, unless memory runs out.
-fn resolved<'a>(alloc: Global, scope: Scope<'a>) -> Result<Resolved<'a>, Stop> {
+fn resolved<'a>(alloc: Global, scope: Scope<'a>) -> Result<Resolved<'a>, Stop>
+    ensures { IfOk result (λ x. AreResolved (resolved_of scope.entry.modules.now scope.entry.known.now x)) }
+{
     let mut r = new_resolver(alloc, scope)?;
     for (index, module) in scope.modules.iter().enumerate() {
         resolve_module(&mut r, index, module)?;
@@ -91,7 +99,9 @@ pub fn resolve<'a>(
     alloc: Global,
     modules: &'a [Module<'a>],
     known: &'a [KnownType<'a>],
-) -> Result<Resolved<'a>, AllocError> {
+) -> Result<Resolved<'a>, AllocError>
+    ensures { IfOk result (λ x. AreResolved (resolved_of modules.now known.now x)) }
+{
     match resolved(alloc, Scope { modules, known }) {
         Ok(resolved) => Ok(resolved),
         Err(_) => Err(AllocError),

@@ -1,4 +1,7 @@
 //! Types that a module leaves open: parameters (X.683), and fields of classes (X.681).
+ghost use Rattle.std.specs.Prelude.{IfOk, IfSome};
+ghost use Rattle.asn1_types.specs.Context.{IsUnchanged};
+ghost use Rattle.asn1_types.specs.Notations.{IsWithoutTag};
 
 use crate::builtins::{Builtin, builtin_of};
 use crate::cores::{TypeAt, place_of};
@@ -34,7 +37,9 @@ fn field_notation<'a>(
     module: usize,
     class: Token<'a>,
     field: Token<'a>,
-) -> Notation {
+) -> Notation
+    ensures { IsWithoutTag result }
+{
     match word_after(class_fields(scope, module, class), field.text) {
         Some(word) => match builtin_of(word.text) {
             Some(Builtin::ObjectIdentifier) => Notation::ObjectIdentifier,
@@ -61,7 +66,10 @@ pub fn open_notation<'a>(
     r: &mut Resolver<'a>,
     at: TypeAt<'a>,
     plain: &'a PlainType<'a>,
-) -> Result<Option<Notation>, Stop> {
+) -> Result<Option<Notation>, Stop>
+    ensures unchanged { IsUnchanged r.old r.new }
+    ensures without_tag { IfOk result (λ found. IfSome found IsWithoutTag) }
+{
     match plain.words.as_slice() {
         [name] if is_parameter(r.work.parameters, name.text) => {
             note(r, place_of(at), Loosening::Parameter)?;

@@ -1,5 +1,8 @@
 //! Types in which no other type is, tags, and constraints of a notation.
 ghost use Rattle.std.specs.Prelude.{◌≡◌, IfOk};
+ghost use Rattle.asn1_types.specs.Bounds.{DiffersInBounds, IsConstrained};
+ghost use Rattle.asn1_types.specs.Context.{IsUnchanged};
+ghost use Rattle.asn1_types.specs.Notations.{IsAsItCame, IsInItself, IsListOf, IsWithoutTag, list_by};
 ghost use Rattle.asn1_types.specs.Tagged.{IsTaggedAutomaticallyBy, IsTaggedBy};
 ghost use Rattle.asn1_types.specs.Tags.{IsTagOf, class_named, class_written, environment_of, mode_named, mode_written};
 
@@ -14,17 +17,20 @@ use crate::resolver::{Resolver, environment, note};
 use crate::scope::Scope;
 use crate::tags::{automatic_layer, tag_layer};
 use crate::tags_of_types::is_untagged;
-use crate::tokens::{is, is_word};
+use crate::tokens::is;
 use crate::values::number_of;
 use asn1_syntax::Token;
 use asn1_syntax::tree::{ListSize, TagNotation, TypeNotation};
+use std::alloc::Global;
 
 // The index of the names of numbers or bits in the braces after a type, if it has some.
 fn names_after<'a>(
     r: &mut Resolver<'a>,
     at: TypeAt<'a>,
     builtin: Builtin,
-) -> Result<Option<usize>, Stop> {
+) -> Result<Option<usize>, Stop>
+    ensures { IsUnchanged r.old r.new }
+{
     match builtin {
         Builtin::Integer | Builtin::BitString => names_in(r, at.module, braces(at.notation)),
         _ => Ok(None),
@@ -32,7 +38,9 @@ fn names_after<'a>(
 }
 
 // The notation of a type that has a word of its own, and is no ENUMERATED, with the names of this index.
-fn notation_of(builtin: Builtin, names: Option<usize>) -> Notation {
+fn notation_of(builtin: Builtin, names: Option<usize>) -> Notation
+    ensures { IsWithoutTag result }
+{
     match builtin {
         Builtin::Boolean => Notation::Boolean,
         Builtin::Null => Notation::Null,
@@ -65,7 +73,10 @@ pub fn builtin_notation<'a>(
     place: TypeAt<'a>,
     word: Token<'a>,
     builtin: Builtin,
-) -> Result<Notation, Stop> {
+) -> Result<Notation, Stop>
+    ensures unchanged { IsUnchanged r.old r.new }
+    ensures without_tag { IfOk result IsWithoutTag }
+{
     if let Some(what) = loosening(builtin) {
         note(r, at(place.module, word), what)?;
     }
@@ -74,7 +85,9 @@ pub fn builtin_notation<'a>(
 }
 
 /// The place of a lexical item.
-pub fn at(module: usize, token: Token<'_>) -> Place {
+pub fn at(module: usize, token: Token<'_>) -> Place
+    ensures { result.module ≡ «module» }
+{
     Place {
         module,
         offset: token.offset,
@@ -85,10 +98,10 @@ pub fn at(module: usize, token: Token<'_>) -> Place {
 fn class_named(word: Token<'_>) -> TagClass
     ensures { result ≡ class_named word.entry }
 {
-    if is_word(word, b"APPLICATION") {
+    if is(word, b"APPLICATION") {
         return TagClass::Application;
     }
-    if is_word(word, b"PRIVATE") {
+    if is(word, b"PRIVATE") {
         return TagClass::Private;
     }
     TagClass::Universal
@@ -108,7 +121,7 @@ fn class_of(tag: &TagNotation<'_>) -> TagClass
 fn mode_named(word: Token<'_>) -> TagMode
     ensures { result ≡ mode_named word.entry }
 {
-    if is_word(word, b"IMPLICIT") {
+    if is(word, b"IMPLICIT") {
         return TagMode::Implicit;
     }
     TagMode::Explicit
@@ -202,20 +215,37 @@ pub fn first_place(module: usize, tokens: &[Token<'_>]) -> Place {
     }
 }
 
+// Records a constraint, if the notation accepts more than it says.
+fn note_constraint(
+    r: &mut Resolver<'_>,
+    module: usize,
+    tokens: &[Token<'_>],
+    accepts_more: bool,
+) -> Result<(), Stop>
+    ensures { IsUnchanged r.old r.new }
+{
+    if !accepts_more {
+        return Ok(());
+    }
+    note(r, first_place(module, tokens), loosening_of(tokens))
+}
+
 /// A notation with the constraints after its type.
 pub fn constrained<'a>(
     r: &mut Resolver<'a>,
     at: TypeAt<'a>,
     notation: Notation,
     constraints: &'a [Vec<Token<'a>>],
-) -> Result<Notation, Stop> {
+) -> Result<Notation, Stop>
+    ensures unchanged { IsUnchanged r.old r.new }
+    ensures constrained { IfOk result (IsConstrained notation) }
+{
     let mut constrained = notation;
     let names = names_of(r.scope, at);
     for constraint in constraints {
         let tokens = constraint.as_slice();
-        if constrain(names, &mut constrained, tokens) {
-            note(r, first_place(at.module, tokens), loosening_of(tokens))?;
-        }
+        let accepts_more = constrain(names, &mut constrained, tokens);
+        note_constraint(r, at.module, tokens, accepts_more)?;
     }
     Ok(constrained)
 }
@@ -229,7 +259,9 @@ fn size_items<'a>(size: &'a ListSize<'a>) -> &'a [Token<'a>] {
 }
 
 // Adds the constraint before OF to a list, and says whether the list accepts more.
-fn constrain_before_of<'a>(names: Names<'a>, list: &mut Notation, size: &'a ListSize<'a>) -> bool {
+fn constrain_before_of<'a>(names: Names<'a>, list: &mut Notation, size: &'a ListSize<'a>) -> bool
+    ensures { DiffersInBounds list.old list.new }
+{
     match size {
         ListSize::Any => false,
         ListSize::Size(tokens) => constrain_list(names, list, tokens.as_slice()),
@@ -248,7 +280,10 @@ fn sized<'a>(
     module: usize,
     notation: Notation,
     size: &'a ListSize<'a>,
-) -> Result<Notation, Stop> {
+) -> Result<Notation, Stop>
+    ensures unchanged { IsUnchanged r.old r.new }
+    ensures sized { IfOk result (DiffersInBounds notation) }
+{
     let mut list = notation;
     let names = Names {
         scope: r.scope,
@@ -256,10 +291,8 @@ fn sized<'a>(
         braces_module: module,
         braces: no_tokens(),
     };
-    if constrain_before_of(names, &mut list, size) {
-        let tokens = size_items(size);
-        note(r, first_place(module, tokens), loosening_of(tokens))?;
-    }
+    let accepts_more = constrain_before_of(names, &mut list, size);
+    note_constraint(r, module, size_items(size), accepts_more)?;
     Ok(list)
 }
 
@@ -270,18 +303,29 @@ pub fn list_of<'a>(
     word: Token<'a>,
     size: &'a ListSize<'a>,
     element: Notation,
-) -> Result<Notation, Stop> {
+) -> Result<Notation, Stop>
+    ensures unchanged { IsUnchanged r.old r.new }
+    ensures list { IfOk result (IsListOf word.entry element) }
+{
     let boxed = Box::new(r.alloc, element)?;
-    let list = if is(word, b"SET") {
-        Notation::SetOf(boxed, ANY_SIZE)
+    sized(r, module, list_by(is(word, b"SET"), boxed), size)
+}
+
+// A SET OF or a SEQUENCE OF, of any size.
+fn list_by(is_set: bool, element: Box<Notation>) -> Notation
+    ensures { result ≡ list_by is_set element ANY_SIZE }
+{
+    if is_set {
+        Notation::SetOf(element, ANY_SIZE)
     } else {
-        Notation::SequenceOf(boxed, ANY_SIZE)
-    };
-    sized(r, module, list, size)
+        Notation::SequenceOf(element, ANY_SIZE)
+    }
 }
 
 // A type inside itself, without its tag.
-fn raw_notation<'a>(notation: &'a TypeNotation<'a>) -> Notation {
+fn raw_notation<'a>(notation: &'a TypeNotation<'a>) -> Notation
+    ensures { IsWithoutTag result }
+{
     match untagged(notation) {
         TypeNotation::ListOf(head, _) if is(head.word, b"SET") => Notation::ElementsUnder(17),
         TypeNotation::ListOf(_, _) => Notation::ElementsUnder(16),
@@ -291,21 +335,32 @@ fn raw_notation<'a>(notation: &'a TypeNotation<'a>) -> Notation {
     }
 }
 
+// Any elements as they came, under an outermost tag.
+fn as_it_came(alloc: Global, tag: Tag) -> Result<Notation, Stop>
+    ensures { IfOk result IsAsItCame }
+{
+    let layer = TagLayer {
+        class: tag.class,
+        number: tag.number,
+        mode: TagMode::Implicit,
+    };
+    let content = Box::new(alloc, Notation::ElementsUnder(16))?;
+    Ok(Notation::Tagged(layer, content))
+}
+
 /// A type inside itself, whose elements are kept as they came under its outermost tag.
 pub fn recursive<'a>(
     r: &mut Resolver<'a>,
     place: Place,
     inner: TypeAt<'a>,
-) -> Result<Notation, Stop> {
+) -> Result<Notation, Stop>
+    ensures unchanged { IsUnchanged r.old r.new }
+    ensures notation { IfOk result IsInItself }
+{
     note(r, place, Loosening::Recursion)?;
     let TypeNotation::Tagged(tag, _) = inner.notation else {
         return Ok(raw_notation(inner.notation));
     };
     let number = tag_number(r.scope, inner.module, tag)?;
-    let layer = TagLayer {
-        class: number.class,
-        number: number.number,
-        mode: TagMode::Implicit,
-    };
-    Ok(Notation::Tagged(layer, Box::new(r.alloc, Notation::ElementsUnder(16))?))
+    as_it_came(r.alloc, number)
 }

@@ -1,6 +1,7 @@
 //! What a name means in a module (X.680, 13.10 to 13.17).
-ghost use Rattle.std.specs.Prelude.{◌≡◌, IfSome, MatchOption, None, Some, slice_get};
+ghost use Rattle.std.specs.Prelude.{◌≡◌, IfOk, IfSome, Some, slice_get};
 ghost use Rattle.asn1_types.specs.Notations.{assigned_by, assignment_there};
+ghost use Rattle.asn1_types.specs.Names.{IsImportedFrom, IsStep, IsStepFrom, Means, MeansFrom, assigned_index, exports, imports_name, known_index, module_index, name_of};
 
 use crate::model::KnownType;
 use crate::problem::{Problem, ProblemKind, problem_at};
@@ -36,7 +37,9 @@ pub enum Meaning {
 }
 
 /// The name that is assigned.
-pub fn assigned_name<'a>(assignment: &Assignment<'a>) -> Token<'a> {
+pub fn assigned_name<'a>(assignment: &Assignment<'a>) -> Token<'a>
+    ensures { result ≡ name_of assignment.now }
+{
     match assignment {
         Assignment::Type(name, _)
         | Assignment::Value(name, _, _)
@@ -66,7 +69,9 @@ pub fn parameters_of<'a>(assignment: &'a Assignment<'a>) -> &'a [Token<'a>] {
 }
 
 /// The index of the assignment of a name in a module.
-pub fn assignment_index(module: &Module<'_>, name: &[u8]) -> Option<usize> {
+pub fn assignment_index(module: &Module<'_>, name: &[u8]) -> Option<usize>
+    ensures { result ≡ assigned_index name.now «module».now }
+{
     module
         .assignments
         .iter()
@@ -84,35 +89,46 @@ pub fn assignment_at<'a>(
     module.assignments.get(place.assignment)
 }
 
+// The module at an index.
+fn module_at<'a>(modules: &'a [Module<'a>], index: usize) -> Option<&'a Module<'a>>
+    ensures { IfSome result (λ m. slice_get modules.now index ≡ Some m.now) }
+{
+    modules.get(index)
+}
+
 // The index of the module of a name.
-fn module_index(modules: &[Module<'_>], name: &[u8]) -> Option<usize> {
+fn module_index(modules: &[Module<'_>], name: &[u8]) -> Option<usize>
+    ensures { result ≡ module_index name.now modules.now }
+{
     modules.iter().position(|module| is(module.name, name))
 }
 
 // Whether a name is among those that are imported from one module.
-fn imports_name(import: &Import<'_>, name: &[u8]) -> bool {
+fn imports_name(import: &Import<'_>, name: &[u8]) -> bool
+    ensures { result ≡ imports_name name.now import.now }
+{
     is(import.first, name) || has_text(import.others.as_slice(), name)
 }
 
-// The module that names are imported from, if one of them is this name.
-fn module_of<'a>(import: &Import<'a>, name: &[u8]) -> Option<Token<'a>>
-    ensures { IfSome result (λ token. token.text.now ≡ import.now.module.text.now) }
-{
-    if imports_name(import, name) {
-        Some(import.module)
-    } else {
-        None
-    }
-}
-
 // The name of the module that a name is imported from.
-fn imported_from<'a>(module: &Module<'a>, name: &[u8]) -> Option<Token<'a>> {
-    let imports = module.imports.as_ref()?;
-    imports.iter().find_map(|import| module_of(import, name))
+fn imported_from<'a>(module: &Module<'a>, name: &[u8]) -> Option<Token<'a>>
+    ensures { IfSome result (λ from. IsImportedFrom «module».now name.now from.text.now) }
+{
+    let Some(imports) = &module.imports else {
+        return None;
+    };
+    for import in imports {
+        if imports_name(import, name) {
+            return Some(import.module);
+        }
+    }
+    None
 }
 
 /// Whether a module exports a name (X.680, 13.12).
-pub fn exports_name(module: &Module<'_>, name: &[u8]) -> bool {
+pub fn exports_name(module: &Module<'_>, name: &[u8]) -> bool
+    ensures { result ≡ exports name.now «module».now.exports }
+{
     match &module.exports {
         None => true,
         Some(names) => has_text(names.as_slice(), name) || has_text(names.as_slice(), b"ALL"),
@@ -120,7 +136,9 @@ pub fn exports_name(module: &Module<'_>, name: &[u8]) -> bool {
 }
 
 // The known type of a module and a name.
-fn known_index(known: &[KnownType<'_>], module: &[u8], name: &[u8]) -> Option<usize> {
+fn known_index(known: &[KnownType<'_>], module: &[u8], name: &[u8]) -> Option<usize>
+    ensures { result ≡ known_index «module».now name.now known.now }
+{
     known
         .iter()
         .position(|row| row.module == module && row.name == name)
@@ -132,16 +150,18 @@ fn imported<'a>(
     module: usize,
     from: Token<'a>,
     name: Token<'a>,
-) -> Result<Step, Problem> {
-    if let Some(index) = known_index(scope.known, from.text, name.text) {
-        return Ok(Step::Known(index));
-    }
-    let Some(index) = module_index(scope.modules, from.text) else {
-        return Err(problem_at(module, name, ProblemKind::ModuleMissing));
-    };
-    match scope.modules.get(index) {
-        Some(exporter) if exports_name(exporter, name.text) => Ok(Step::Module(index)),
-        _ => Err(problem_at(module, name, ProblemKind::NotExported)),
+) -> Result<Step, Problem>
+    ensures { IfOk result (IsStepFrom scope.entry.modules.now scope.entry.known.now name.entry.text.now from.entry.text.now) }
+{
+    match known_index(scope.known, from.text, name.text) {
+        Some(index) => Ok(Step::Known(index)),
+        None => match module_index(scope.modules, from.text) {
+            None => Err(problem_at(module, name, ProblemKind::ModuleMissing)),
+            Some(index) => match module_at(scope.modules, index) {
+                Some(exporter) if exports_name(exporter, name.text) => Ok(Step::Module(index)),
+                _ => Err(problem_at(module, name, ProblemKind::NotExported)),
+            },
+        },
     }
 }
 
@@ -162,16 +182,18 @@ fn next_step<'a>(
     module: usize,
     user: usize,
     name: Token<'a>,
-) -> Result<Step, Problem> {
-    let Some(here) = scope.modules.get(module) else {
+) -> Result<Step, Problem>
+    ensures { IfOk result (IsStep scope.entry.modules.now scope.entry.known.now name.entry.text.now «module») }
+{
+    let Some(here) = module_at(scope.modules, module) else {
         return Err(problem_at(user, name, ProblemKind::ModuleMissing));
     };
-    if let Some(assignment) = assignment_index(here, name.text) {
-        return Ok(Step::Assigned(AssignmentPlace { module, assignment }));
-    }
-    match imported_from(here, name.text) {
-        Some(from) => imported(scope, user, from, name),
-        None => Err(problem_at(user, name, ProblemKind::NotDefined)),
+    match assignment_index(here, name.text) {
+        Some(assignment) => Ok(Step::Assigned(AssignmentPlace { module, assignment })),
+        None => match imported_from(here, name.text) {
+            Some(from) => imported(scope, user, from, name),
+            None => Err(problem_at(user, name, ProblemKind::NotDefined)),
+        },
     }
 }
 
@@ -181,7 +203,9 @@ fn meaning_in<'a>(
     module: usize,
     user: usize,
     name: Token<'a>,
-) -> Result<Meaning, Problem> {
+) -> Result<Meaning, Problem>
+    ensures { IfOk result (Means scope.entry.modules.now scope.entry.known.now name.entry.text.now «module») }
+{
     let mut at = module;
     for _ in 0..scope.modules.len() {
         match next_step(scope, at, user, name)? {
@@ -194,11 +218,9 @@ fn meaning_in<'a>(
 }
 
 /// What a name means in a module. The name may be imported through several modules.
-pub fn meaning_of<'a>(
-    scope: Scope<'a>,
-    module: usize,
-    name: Token<'a>,
-) -> Result<Meaning, Problem> {
+pub fn meaning_of<'a>(scope: Scope<'a>, module: usize, name: Token<'a>) -> Result<Meaning, Problem>
+    ensures { IfOk result (Means scope.entry.modules.now scope.entry.known.now name.entry.text.now «module») }
+{
     meaning_in(scope, module, module, name)
 }
 
@@ -208,7 +230,9 @@ pub fn external_meaning<'a>(
     module: usize,
     from: Token<'a>,
     name: Token<'a>,
-) -> Result<Meaning, Problem> {
+) -> Result<Meaning, Problem>
+    ensures { IfOk result (MeansFrom scope.entry.modules.now scope.entry.known.now name.entry.text.now from.entry.text.now) }
+{
     match imported(scope, module, from, name)? {
         Step::Module(index) => meaning_in(scope, index, module, name),
         Step::Known(index) => Ok(Meaning::Known(index)),

@@ -1,23 +1,22 @@
 //! Lists of lexical items, as a tree keeps constraints, values and named numbers.
 ghost use Rattle.std.specs.Prelude.{◌≡◌};
+ghost use Rattle.std.specs.List.{list_any};
 ghost use Rattle.std.specs.Str.{bytes_eq};
+ghost use Rattle.asn1_types.specs.Names.{has_text};
 
 use asn1_syntax::{Token, TokenKind};
 
 /// Whether a lexical item has this text.
-pub fn is(token: Token<'_>, text: &[u8]) -> bool {
+pub fn is(token: Token<'_>, text: &[u8]) -> bool
+    ensures { result ≡ bytes_eq token.entry.text.now text.now }
+{
     token.text == text
 }
 
-/// Whether a lexical item is this reserved word.
-pub fn is_word(token: Token<'_>, word: &[u8]) -> bool
-    ensures { result ≡ bytes_eq token.entry.text.now word.now }
-{
-    token.text == word
-}
-
 /// Whether a lexical item with this text is in a list.
-pub fn has_text(tokens: &[Token<'_>], text: &[u8]) -> bool {
+pub fn has_text(tokens: &[Token<'_>], text: &[u8]) -> bool
+    ensures { result ≡ list_any (has_text text.now) tokens.now }
+{
     tokens.iter().any(|token| is(*token, text))
 }
 

@@ -1,8 +1,10 @@
 //! Types, of whatever depth.
-ghost use Rattle.std.specs.Prelude.{◌≡◌};
-ghost use Rattle.asn1_types.specs.Context.{IsUnchanged};
-ghost use Rattle.asn1_types.specs.Definitions.{Continues, is_choice};
-ghost use Rattle.asn1_types.specs.Notations.{number_of_part};
+ghost use Rattle.std.specs.Prelude.{◌≡◌, IfOk, IfSome};
+ghost use Rattle.asn1_types.specs.declared.model.Notation.TheVariants.{Defined};
+ghost use Rattle.asn1_types.specs.Context.{IsUnchanged, context_of};
+ghost use Rattle.asn1_types.specs.Definitions.{Continues, IsBodyOf, is_choice};
+ghost use Rattle.asn1_types.specs.Notations.{IsAssigned, IsBody, IsNotation, IsPlain, IsWithoutTag, number_of_part};
+ghost use Rattle.asn1_types.specs.PartsOf.{ArePartsOf, IsPartOf};
 
 use crate::bodies::{body_of, extension_of, finished, layers, note_constraints, numbers_of};
 use crate::builtins::{Builtin, builtin_of};
@@ -38,7 +40,10 @@ fn too_deep(at: TypeAt<'_>) -> Stop {
 
 /// The notation of a type. What is declared inside it becomes definitions.
 #[cycle(types)]
-pub fn notation<'a>(r: &mut Resolver<'a>, at: TypeAt<'a>, depth: usize) -> Result<Notation, Stop> {
+pub fn notation<'a>(r: &mut Resolver<'a>, at: TypeAt<'a>, depth: usize) -> Result<Notation, Stop>
+    ensures continues { Continues r.old r.new }
+    ensures notation { IfOk result (IsNotation (context_of r.new) at.entry.module at.entry.notation.now) }
+{
     if depth == 0 {
         return Err(too_deep(at));
     }
@@ -124,6 +129,31 @@ fn named_type<'a>(
     None
 }
 
+// The notation of a type that has a word of its own, or that is left open. `None` is a name.
+fn own_notation<'a>(
+    r: &mut Resolver<'a>,
+    at: TypeAt<'a>,
+    plain: &'a PlainType<'a>,
+) -> Result<Option<Notation>, Stop>
+    ensures continues { Continues r.old r.new }
+    ensures without_tag { IfOk result (λ found. IfSome found IsWithoutTag) }
+{
+    let Some(word) = plain.words.first().copied() else {
+        return Err(too_deep(at));
+    };
+    match builtin_of(word.text) {
+        Some(Builtin::Enumerated) => {
+            let index = define_enumeration(r, at)?;
+            Ok(Some(Notation::Defined(index)))
+        }
+        Some(builtin) => {
+            let notation = builtin_notation(r, at, word, builtin)?;
+            Ok(Some(notation))
+        }
+        None => open_notation(r, at, plain),
+    }
+}
+
 // The notation of a type in which no other type is.
 #[cycle(types)]
 fn plain_notation<'a>(
@@ -131,19 +161,13 @@ fn plain_notation<'a>(
     at: TypeAt<'a>,
     plain: &'a PlainType<'a>,
     depth: usize,
-) -> Result<Notation, Stop> {
-    let Some(word) = plain.words.first().copied() else {
-        return Err(too_deep(at));
-    };
-    if let Some(builtin) = builtin_of(word.text) {
-        if matches!(builtin, Builtin::Enumerated) {
-            let index = define_enumeration(r, at)?;
-            return Ok(Notation::Defined(index));
-        }
-        return builtin_notation(r, at, word, builtin);
-    }
-    if let Some(open) = open_notation(r, at, plain)? {
-        return Ok(open);
+) -> Result<Notation, Stop>
+    ensures continues { Continues r.old r.new }
+    ensures notation { IfOk result (IsPlain (context_of r.new)) }
+{
+    let own = own_notation(r, at, plain)?;
+    if let Some(notation) = own {
+        return Ok(notation);
     }
     match reference_meaning(r.scope, at.module, plain)? {
         Meaning::Known(index) => Ok(Notation::Imported(index)),
@@ -162,11 +186,10 @@ fn define_enumeration<'a>(r: &mut Resolver<'a>, at: TypeAt<'a>) -> Result<usize,
 }
 
 // The type that an assignment assigns.
-fn type_of<'a>(
-    r: &Resolver<'a>,
-    user: Place,
-    place: AssignmentPlace,
-) -> Result<TypeAt<'a>, Problem> {
+fn type_of<'a>(r: &Resolver<'a>, user: Place, place: AssignmentPlace) -> Result<TypeAt<'a>, Problem>
+    ensures assigned { IfOk result (λ at. IsAssigned r.now.scope.modules.now place.module place.assignment at.notation.now) }
+    ensures module { IfOk result (λ at. at.module ≡ place.module) }
+{
     match assigned_type(r.scope, place) {
         Some(assigned) => Ok(assigned),
         None => Err(Problem {
@@ -184,7 +207,10 @@ fn reference<'a>(
     user: TypeAt<'a>,
     place: AssignmentPlace,
     depth: usize,
-) -> Result<Notation, Stop> {
+) -> Result<Notation, Stop>
+    ensures continues { Continues r.old r.new }
+    ensures notation { IfOk result (IsPlain (context_of r.new)) }
+{
     let assigned = type_of(r, place_of(user), place)?;
     assign(r, place, depth)?;
     match state_of(r, place) {
@@ -210,14 +236,37 @@ fn aliased<'a>(
     place: AssignmentPlace,
     index: usize,
     depth: usize,
-) -> Result<Notation, Stop> {
-    let own = parameters_at(r.scope, place);
-    let before = std::mem::replace(&mut r.work.parameters, own);
-    set_state(r, place, State::Open);
+) -> Result<Notation, Stop>
+    ensures continues { Continues r.old r.new }
+    ensures notation { IfOk result (IsNotation (context_of r.new) assigned.entry.module assigned.entry.notation.now) }
+{
+    let before = enter_alias(r, place);
     let outcome = notation(r, assigned, depth);
+    leave_alias(r, place, index, before);
+    outcome
+}
+
+// Opens a name for a notation, and gives the parameters of who uses it.
+fn enter_alias<'a>(r: &mut Resolver<'a>, place: AssignmentPlace) -> &'a [Token<'a>]
+    ensures { IsUnchanged r.old r.new }
+{
+    let before = r.work.parameters;
+    r.work.parameters = parameters_at(r.scope, place);
+    set_state(r, place, State::Open);
+    before
+}
+
+// Closes it again.
+fn leave_alias<'a>(
+    r: &mut Resolver<'a>,
+    place: AssignmentPlace,
+    index: usize,
+    before: &'a [Token<'a>],
+)
+    ensures { IsUnchanged r.old r.new }
+{
     set_state(r, place, State::Alias(index));
     r.work.parameters = before;
-    outcome
 }
 
 // The parameters of the assignment at a place.
@@ -230,7 +279,9 @@ fn parameters_at<'a>(scope: Scope<'a>, place: AssignmentPlace) -> &'a [Token<'a>
 
 // Resolves the assignment of a type, if it isn't yet.
 #[cycle(types)]
-pub fn assign<'a>(r: &mut Resolver<'a>, place: AssignmentPlace, depth: usize) -> Result<(), Stop> {
+pub fn assign<'a>(r: &mut Resolver<'a>, place: AssignmentPlace, depth: usize) -> Result<(), Stop>
+    ensures { Continues r.old r.new }
+{
     let Some(assignment) = assignment_at(r.scope.modules, place) else {
         return Ok(());
     };
@@ -296,7 +347,11 @@ fn definition<'a>(
     at: TypeAt<'a>,
     place: Place,
     depth: usize,
-) -> Result<State, Stop> {
+) -> Result<State, Stop>
+    requires assigned { IsAssigned r.old.scope.modules.now at.module r.old.work.assignment at.notation.now }
+    requires place { place.module ≡ at.module }
+    ensures { Continues r.old r.new }
+{
     let inner = untagged(at.notation);
     if let TypeNotation::Constructed(word, components) = inner {
         let body = body(r, at.module, *word, components.as_slice(), depth)?;
@@ -319,7 +374,12 @@ fn declared<'a>(
     at: TypeAt<'a>,
     place: Place,
     notation: Notation,
-) -> Result<State, Stop> {
+) -> Result<State, Stop>
+    requires assigned { IsAssigned r.old.scope.modules.now at.module r.old.work.assignment at.notation.now }
+    requires place { place.module ≡ at.module }
+    requires notation { IsNotation (context_of r.old) at.module at.notation.now notation }
+    ensures { Continues r.old r.new }
+{
     let tags = Vec::new(r.alloc);
     let looser = take_looser(r);
     let index = add_definition(r, place, tags, Body::Value(notation), looser)?;
@@ -332,7 +392,12 @@ fn alias<'a>(
     at: TypeAt<'a>,
     place: Place,
     notation: Notation,
-) -> Result<State, Stop> {
+) -> Result<State, Stop>
+    requires assigned { IsAssigned r.old.scope.modules.now at.module r.old.work.assignment at.notation.now }
+    requires place { place.module ≡ at.module }
+    requires notation { IsNotation (context_of r.old) at.module at.notation.now notation }
+    ensures { Continues r.old r.new }
+{
     let tags = Vec::new(r.alloc);
     let looser = take_looser(r);
     let index = add_definition(r, place, tags, Body::Alias(notation), looser)?;
@@ -353,7 +418,12 @@ fn defined<'a>(
     at: TypeAt<'a>,
     place: Place,
     body: Body<'a>,
-) -> Result<State, Stop> {
+) -> Result<State, Stop>
+    requires assigned { IsAssigned r.old.scope.modules.now at.module r.old.work.assignment at.notation.now }
+    requires place { place.module ≡ at.module }
+    requires body { IsBodyOf (context_of r.old) at.module at.notation.now body }
+    ensures { Continues r.old r.new }
+{
     let tags = layers(r, at, is_choice(&body))?;
     note_constraints(r, at)?;
     let looser = take_looser(r);
@@ -370,7 +440,10 @@ fn is_choice(body: &Body<'_>) -> bool
 
 // Adds the definition of a SEQUENCE, a SET or a CHOICE inside another type.
 #[cycle(types)]
-fn define<'a>(r: &mut Resolver<'a>, at: TypeAt<'a>, depth: usize) -> Result<usize, Stop> {
+fn define<'a>(r: &mut Resolver<'a>, at: TypeAt<'a>, depth: usize) -> Result<usize, Stop>
+    ensures continues { Continues r.old r.new }
+    ensures notation { IfOk result (λ index. IsNotation (context_of r.new) at.entry.module at.entry.notation.now (Defined index)) }
+{
     let TypeNotation::Constructed(word, components) = at.notation else {
         return Err(too_deep(at));
     };
@@ -390,7 +463,10 @@ fn body<'a>(
     word: Token<'a>,
     components: &'a [Component<'a, TypeNotation<'a>>],
     depth: usize,
-) -> Result<Body<'a>, Stop> {
+) -> Result<Body<'a>, Stop>
+    ensures continues { Continues r.old r.new }
+    ensures body { IfOk result (IsBody (context_of r.new) «module» word.entry components.now) }
+{
     let written = written_parts(r.alloc, r.scope, module, components, MAX_DEPTH)?;
     let parts = parts(r, module, &written, depth)?;
     let extension = extension_of(r, module, &written);
@@ -404,13 +480,16 @@ fn parts<'a>(
     module: usize,
     written: &WrittenParts<'a>,
     depth: usize,
-) -> Result<Vec<Part<'a>>, Stop> {
+) -> Result<Vec<Part<'a>>, Stop>
+    ensures continues { Continues r.old r.new }
+    ensures parts { IfOk result (λ parts. ArePartsOf (context_of r.new) «module» written.now.parts.items parts.items) }
+{
     let sources = written.parts.as_slice();
     let numbers = numbers_of(r, module, sources)?;
     let mut parts = Vec::new(r.alloc);
-    for (index, source) in sources.iter().enumerate() {
+    for index in 0..sources.len() {
         let number = number_of_part(numbers.as_slice(), index);
-        let part = part(r, *source, number, depth)?;
+        let part = part(r, sources[index], number, depth)?;
         parts.push(part)?;
     }
     Ok(parts)
@@ -433,7 +512,10 @@ fn part<'a>(
     source: WrittenPart<'a>,
     number: Option<usize>,
     depth: usize,
-) -> Result<Part<'a>, Stop> {
+) -> Result<Part<'a>, Stop>
+    ensures continues { Continues r.old r.new }
+    ensures part { IfOk result (IsPartOf (context_of r.new) source.entry number) }
+{
     r.work.path.push(source.name.text)?;
     let at = TypeAt {
         module: source.module,

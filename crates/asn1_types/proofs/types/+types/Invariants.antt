@@ -1,4 +1,7 @@
-use Rattle.std.proofs.Common.{◌*◌, ◌+◌}
+use Rattle.std.proofs.Common.{◌*◌, ◌+◌, take}
+use Rattle.asn1_types.specs.Context.{context_of}
+use Rattle.asn1_types.specs.Definitions.{Continues}
+use Rattle.asn1_types.specs.Notations.{AreParts}
 use Rattle.asn1_types.proofs.types.+types.Given as goal
 
 abbrev pub decreases-notation : goal.decreases-notation
@@ -30,3 +33,9 @@ decreases-reference l = 8 * l.depth + 6
 
 abbrev pub decreases-plain_notation : goal.decreases-plain_notation
 decreases-plain_notation l = 8 * l.depth + 7
+
+abbrev pub invariant-parts-loop-index : goal.invariant-parts-loop-index
+invariant-parts-loop-index l = record {
+  continues : Continues l.fn.r l.r;
+  are : AreParts (context_of l.r) l.numbers.items (take l.index l.sources) l.parts.items;
+}

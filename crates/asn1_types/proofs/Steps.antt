@@ -1,0 +1,176 @@
+-- The steps by which a type is resolved.
+use Rattle.std.proofs.Common.{◌≡◌, ◌∙◌, ◌∷◌, ◌++◌, ◌+◌, ◌<◌, ℕ, Bool, List, [], Option, Result, Ok, Err, sym, subst, ap, take, get_or, length, refl, arith}
+use Rattle.std.proofs.lemmas.List.{length-take-le, take_more}
+use Rattle.std.specs.Global.{Box, Vec}
+use Rattle.std.specs.Result.{IfOk, OnErr}
+use Rattle.asn1_types.specs.declared.components.WrittenPart.{WrittenPart}
+use Rattle.asn1_types.specs.declared.model.Body.{Body}
+use Rattle.asn1_types.specs.declared.model.Definition.{Definition}
+use Rattle.asn1_types.specs.declared.model.Notation.{Notation}
+use Rattle.asn1_types.specs.declared.model.Notation.TheVariants as notations
+use Rattle.asn1_types.specs.declared.model.Part.{Part}
+use Rattle.asn1_types.specs.declared.model.Place.{Place}
+use Rattle.asn1_types.specs.declared.model.Size.{Size}
+use Rattle.asn1_types.specs.declared.model.TagLayer.{TagLayer}
+use Rattle.asn1_types.specs.declared.problem.Stop.{Stop}
+use Rattle.asn1_types.specs.declared.resolver.Resolver.{Resolver}
+use Rattle.asn1_types.specs.declared.tags_of_types.TagSet.{TagSet}
+use Rattle.asn1_types.specs.Bounds.{DiffersInBounds, IsConstrained}
+use Rattle.asn1_types.specs.Context.{Context, Grows, IsAdded, IsUnchanged, context_of}
+use Rattle.asn1_types.specs.Definitions.{AreDefinitions, AreResolved, Continues, no_definitions}
+use Rattle.asn1_types.specs.Notations.{AreParts, HasParts, IsAssigned, IsBody, IsInItself, IsListOf, IsNotation, IsPlain, IsWithoutTag, is_set, list_by, number_of_part}
+use Rattle.asn1_types.specs.Notations as notations_are
+use Rattle.asn1_types.specs.Numbers.{AreNumbers}
+use Rattle.asn1_types.specs.Parts.{IsFinished}
+use Rattle.asn1_types.specs.PartsOf.{ArePartsOf, IsPartOf}
+use Rattle.asn1_types.specs.Tagged.{IsTaggedBy}
+use Rattle.asn1_types.specs.Tags.{environment_of}
+use Rattle.asn1_types.proofs.Adding.{continues_outcome, is_in_place, is_inside}
+use Rattle.asn1_types.proofs.Growing.{continues_at, continues_then, grow_notation, grow_parts}
+use Rattle.asn1_syntax.specs.declared.token.Token.{Token}
+use Rattle.asn1_syntax.specs.declared.tree.Component.{Component}
+use Rattle.asn1_syntax.specs.declared.tree.ListHead.{ListHead}
+use Rattle.asn1_syntax.specs.declared.tree.Module.{Module}
+use Rattle.asn1_syntax.specs.declared.tree.PlainType.{PlainType}
+use Rattle.asn1_syntax.specs.declared.tree.TagNotation.{TagNotation}
+use Rattle.asn1_syntax.specs.declared.tree.TypeNotation.{TypeNotation}
+use Rattle.asn1_syntax.specs.declared.tree.TypeNotation.TheVariants as trees
+
+-- what is said of a context, in the same one
+pub in_same : {a b : Resolver} (F : Context → Type 0) → IsUnchanged a b → F (context_of a) → F (context_of b)
+in_same F same is = subst F (sym same.context) is
+
+-- where nothing is resolved yet, all is
+pub resolved_at_first : (r : Resolver) → r.definitions.items ≡ [] → r.tag_sets.items ≡ [] → AreResolved (context_of r)
+resolved_at_first r none no_sets =
+    subst (λ (ds : List Definition). AreDefinitions (context_of r) ds r.tag_sets.items) (sym none)
+    (subst (λ (ss : List TagSet). AreDefinitions (context_of r) [] ss) (sym no_sets) no_definitions)
+
+-- a context changes, within an assignment that is resolved within another one
+pub continues_within : {a c d e : Resolver} → context_of c ≡ context_of a → Continues c d → context_of e ≡ context_of d →
+    e.work.assignment ≡ a.work.assignment → Continues a e
+continues_within {a} {c} {d} {e} before g after same =
+    let from : Grows (context_of a) (context_of d) = subst (λ (k : Context). Grows k (context_of d)) before g.grows in
+    record {
+      grows = subst (λ (k : Context). Grows (context_of a) k) (sym after) from;
+      resolved = λ all. subst AreResolved (sym after) (g.resolved (subst AreResolved (sym before) all));
+      assignment = same;
+    }
+
+-- an assigned type, in a context with the same modules
+pub assigned_in : {k c : Context} {m assignment : ℕ} {t : TypeNotation} → Grows k c → IsAssigned k.modules m assignment t → IsAssigned c.modules m assignment t
+assigned_in {m = m} {assignment} {t} g is = subst (λ (x : List Module). IsAssigned x m assignment t) (sym g.modules) is
+
+module _ (k : Context) (m : ℕ) (v : TypeNotation) where
+  pub as_plain : (t : PlainType) (r : Result Notation Stop) → v ≡ trees.Plain t → IfOk r (IsPlain k) → IfOk r (IsNotation k m v)
+  as_plain t (Ok n) is of = subst (λ (u : TypeNotation). IsNotation k m u n) (sym is) (notations_are.plain of)
+  as_plain t (Err e) is of = tt
+
+  pub as_tagged : (tag : TagNotation) (inner : Box TypeNotation) (n : Notation) (r : Result Notation Stop) → v ≡ trees.Tagged tag inner →
+      IsNotation k m inner.value n → IfOk r (IsTaggedBy (environment_of k.modules m) k.known k.sets tag n) → IfOk r (IsNotation k m v)
+  as_tagged tag inner n (Ok outer) is of tagged = subst (λ (u : TypeNotation). IsNotation k m u outer) (sym is) (notations_are.under_tag of tagged)
+  as_tagged tag inner n (Err e) is of tagged = tt
+
+  pub as_selected : (name : Token) (inner : Box TypeNotation) (other : ℕ) (t : TypeNotation) (r : Result Notation Stop) →
+      v ≡ trees.Selected name inner → IfOk r (IsNotation k other t) → IfOk r (IsNotation k m v)
+  as_selected name inner other t (Ok n) is of = subst (λ (u : TypeNotation). IsNotation k m u n) (sym is) (notations_are.selected of)
+  as_selected name inner other t (Err e) is of = tt
+
+  pub as_list : (head : ListHead) (inner : Box TypeNotation) (n : Notation) (r : Result Notation Stop) → v ≡ trees.ListOf head inner →
+      IsNotation k m inner.value n → IfOk r (IsListOf head.word n) → IfOk r (IsNotation k m v)
+  as_list head inner n (Ok outer) is of made = subst (λ (u : TypeNotation). IsNotation k m u outer) (sym is) (notations_are.list of made)
+  as_list head inner n (Err e) is of made = tt
+
+  pub as_constrained : (inner : Box TypeNotation) (constraints : Vec (Vec Token)) (n : Notation) (r : Result Notation Stop) →
+      v ≡ trees.Constrained inner constraints → IsNotation k m inner.value n → IfOk r (IsConstrained n) → IfOk r (IsNotation k m v)
+  as_constrained inner constraints n (Ok outer) is of made =
+      subst (λ (u : TypeNotation). IsNotation k m u outer) (sym is) (notations_are.with_constraints of made)
+  as_constrained inner constraints n (Err e) is of made = tt
+
+pub as_without_tag : (k : Context) (r : Result Notation Stop) → IfOk r IsWithoutTag → IfOk r (IsPlain k)
+as_without_tag k (Ok n) is = notations_are.without_tag is
+as_without_tag k (Err e) is = tt
+
+pub as_in_itself : (k : Context) (r : Result Notation Stop) → IfOk r IsInItself → IfOk r (IsPlain k)
+as_in_itself k (Ok n) is = notations_are.in_itself is
+as_in_itself k (Err e) is = tt
+
+-- the notation of an assigned type is that of its name
+pub as_name : {k c : Context} {m at assignment : ℕ} {t : TypeNotation} {n : Notation} → Grows k c → IsAssigned k.modules m assignment t → at ≡ m →
+    IsNotation c at t n → IsPlain c n
+as_name {c = c} {t = t} {n = n} g assigned is of = notations_are.of_name (assigned_in g assigned) (subst (λ (x : ℕ). IsNotation c x t n) is of)
+
+-- the same of a result
+pub as_named : {k : Context} (c : Context) {m : ℕ} (at : ℕ) {assignment : ℕ} {t : TypeNotation} (r : Result Notation Stop) → Grows k c →
+    IsAssigned k.modules m assignment t → at ≡ m → IfOk r (IsNotation c at t) → IfOk r (IsPlain c)
+as_named c at (Ok n) g assigned is of = as_name g assigned is of
+as_named c at (Err e) g assigned is of = tt
+
+pub as_list_of : (word : Token) (element : Notation) (content : Box Notation) (size : Size) (flag : Bool) (n : Notation) (r : Result Notation Stop) →
+    content.value ≡ element → n ≡ list_by flag content size → flag ≡ is_set word → IfOk r (DiffersInBounds n) → IfOk r (IsListOf word element)
+as_list_of word element content size flag n (Ok outer) value is set differs = record {
+  content = content;
+  value = value;
+  size = size;
+  bounds = subst (λ (x : Notation). DiffersInBounds x outer) (is ∙ ap (λ (b : Bool). list_by b content size) set) differs;
+}
+as_list_of word element content size flag n (Err e) value is set differs = tt
+
+-- an assigned type is that of the same assignment, in the same modules
+pub assigned_at : {modules others : List Module} {m at assignment other : ℕ} {t : TypeNotation} → IsAssigned modules m assignment t → others ≡ modules →
+    at ≡ m → other ≡ assignment → IsAssigned others at other t
+assigned_at {modules} {others} {m} {at} {assignment} {other} {t} is same same_module same_assignment =
+    subst (λ (x : ℕ). IsAssigned others x other t) (sym same_module)
+    (subst (λ (x : ℕ). IsAssigned others m x t) (sym same_assignment)
+    (subst (λ (x : List Module). IsAssigned x m assignment t) (sym same) is))
+
+pub continues_inside : {b e : Resolver} (place : Place) {tags : List TagLayer} {body : Body} (m : ℕ) (word : Token) (parts : List (Component TypeNotation))
+    (r : Result ℕ Stop) → IfOk r (λ i. IsAdded (context_of b) (context_of e) i place b.work.assignment tags body) →
+    OnErr r (context_of e ≡ context_of b) → e.work.assignment ≡ b.work.assignment → tags ≡ [] → IsBody (context_of b) m word parts body → Continues b e
+continues_inside place m word parts r added failed same none is = continues_outcome r added failed same (λ i x. is_inside x m word parts none is)
+
+pub as_in_place : {b : Context} (e : Context) (place : Place) (assignment : ℕ) {tags : List TagLayer} {body : Body} (m : ℕ) (word : Token)
+    (parts : Vec (Component TypeNotation)) (v : TypeNotation) (r : Result ℕ Stop) → v ≡ trees.Constructed word parts →
+    IfOk r (λ i. IsAdded b e i place assignment tags body) → tags ≡ [] → IsBody b m word parts.items body →
+    IfOk r (λ i. IsNotation e m v (notations.Defined i))
+as_in_place e place assignment m word parts v (Ok i) is added none of =
+    subst (λ (u : TypeNotation). IsNotation e m u (notations.Defined i)) (sym is) (is_in_place added m word parts none of)
+as_in_place e place assignment m word parts v (Err x) is added none of = tt
+
+pub as_body : {k : Context} {m : ℕ} (word : Token) (components : List (Component TypeNotation)) {written : List WrittenPart} {parts : List Part}
+    (r : Result Body Stop) → ArePartsOf k m written parts → IfOk r (HasParts word parts) → IfOk r (IsBody k m word components)
+as_body word components (Ok body) of has = notations_are.of_parts of.are_numbers of.are has
+as_body word components (Err e) of has = tt
+
+pub as_part : {k : Context} (w : WrittenPart) (number : Option ℕ) {n : Notation} (r : Result Part Stop) → IsNotation k w.module w.notation.now n →
+    IfOk r (IsFinished k.known k.sets w number n) → IfOk r (IsPartOf k w number)
+as_part w number {n = n} (Ok part) is finished = record { n = n; is = is; finished = finished }
+as_part w number (Err e) is finished = tt
+
+-- one more part is resolved
+pub parts_more : {k c : Context} (numbers : List (Option ℕ)) (before after : List WrittenPart) (w : WrittenPart) (number : Option ℕ) (i : ℕ)
+    {parts : List Part} {part : Part} → Grows k c → AreParts k numbers before parts → after ≡ before ++ w ∷ [] → length before ≡ i →
+    number ≡ number_of_part numbers i → IsPartOf c w number part → AreParts c numbers after (parts ++ part ∷ [])
+parts_more {c = c} numbers before after w number i {parts} {part} g are is at numbered of =
+    let same : number ≡ number_of_part numbers (length before) = numbered ∙ ap (number_of_part numbers) (sym at) in
+    let finished : IsFinished c.known c.sets w (number_of_part numbers (length before)) of.n part =
+    subst (λ (x : Option ℕ). IsFinished c.known c.sets w x of.n part) same of.finished in
+    subst (λ (l : List WrittenPart). AreParts c numbers l (parts ++ part ∷ [])) (sym is) (notations_are.one_more (grow_parts g are) of.is finished)
+
+-- the same of the part at an index
+pub parts_next : {k c : Context} (numbers given : List (Option ℕ)) (sources : List WrittenPart) (i : ℕ) (w : WrittenPart) (number : Option ℕ)
+    {parts : List Part} {part : Part} → Grows k c → AreParts k numbers (take i sources) parts → i < length sources → w ≡ get_or sources i w →
+    given ≡ numbers → number ≡ number_of_part given i → IsPartOf c w number part → AreParts c numbers (take (i + 1) sources) (parts ++ part ∷ [])
+parts_next numbers given sources i w number g are below at same numbered of =
+    parts_more numbers (take i sources) (take (i + 1) sources) w number i g are
+    (take_more sources i w below ∙ ap (λ (x : WrittenPart). take i sources ++ x ∷ []) (sym at)) (length-take-le i sources (omega (arith, below)))
+    (numbered ∙ ap (λ (ns : List (Option ℕ)). number_of_part ns i) same) of
+
+-- all parts are resolved
+pub parts_all : {k c : Context} (m : ℕ) {numbers : List (Option ℕ)} (written : List WrittenPart) (front : List WrittenPart) {parts : List Part} →
+    Grows k c → front ≡ written → AreNumbers (environment_of k.modules m) written numbers → AreParts c numbers front parts → ArePartsOf c m written parts
+parts_all {c = c} m {numbers} written front {parts} g is numbered are = record {
+  numbers = numbers;
+  are_numbers = subst (λ (x : List Module). AreNumbers (environment_of x m) written numbers) (sym g.modules) numbered;
+  are = subst (λ (l : List WrittenPart). AreParts c numbers l parts) is are;
+}
