@@ -57,7 +57,7 @@ unfolding DecodeBlocks
 decode_after [] line rest not x = x.1
 decode_after (b ∷ more) line rest not x = first_after (DecodeBlocks more) line rest b not x x.before refl
 
-decode_before : (blocks : List (List ℕ)) (line : List ℕ) (rest : List (List ℕ)) → (BeginsBlock line → ⊥) → DecodeBlocks blocks rest →
+pub decode_before : (blocks : List (List ℕ)) (line : List ℕ) (rest : List (List ℕ)) → (BeginsBlock line → ⊥) → DecodeBlocks blocks rest →
     DecodeBlocks blocks (line ∷ rest)
 unfolding DecodeBlocks
 decode_before [] line rest not x = (not, x)
@@ -89,7 +89,7 @@ unfolding DecodeBlocks
 decode_opened [] line rest is x = x.0 is
 decode_opened (b ∷ more) line rest is x = opened (DecodeBlocks more) line rest b is x x.before refl
 
-decode_from_opened : (blocks : List (List ℕ)) (line : List ℕ) (rest : List (List ℕ)) → BeginsBlock line → DecodeRest (Some []) blocks rest →
+pub decode_from_opened : (blocks : List (List ℕ)) (line : List ℕ) (rest : List (List ℕ)) → BeginsBlock line → DecodeRest (Some []) blocks rest →
     DecodeBlocks blocks (line ∷ rest)
 unfolding DecodeBlocks
 decode_from_opened [] line rest is x = absurd x
@@ -138,7 +138,7 @@ module _ (taken new : List TextLine) (line : List ℕ) (rest : List (List ℕ)) 
   decode_within (b ∷ more) not x =
       subst (λ z. OpenBlockDecodes (DecodeBlocks more) z rest b) (sym added) (more_taken (DecodeBlocks more) (texts taken) line rest b not x x.body refl)
 
-  decode_from_within : (blocks : List (List ℕ)) → IsInner line → DecodeRest (Some new) blocks rest → DecodeRest (Some taken) blocks (line ∷ rest)
+  pub decode_from_within : (blocks : List (List ℕ)) → IsInner line → DecodeRest (Some new) blocks rest → DecodeRest (Some taken) blocks (line ∷ rest)
   decode_from_within [] inner x = x
   decode_from_within (b ∷ more) inner x = record {
     body = line ∷ x.body;
@@ -168,6 +168,19 @@ ended R taken line rest bytes is x [] h =
 ended R taken line rest bytes is x (y ∷ ys) h =
     let e = x.joined ∙ ap (λ z. z ++ (x.last ∷ x.after)) h in
     absurd ((subst (AllByRecursion IsInner) h x.inner).0.0 (subst EndsBlock (ap prefix e) is))
+
+pub decode_ended : (taken : List TextLine) (line : List ℕ) (rest : List (List ℕ)) (bytes : List ℕ) (blocks : List (List ℕ)) → EndsBlock line →
+    BlockDecodes (texts taken) bytes → DecodeBlocks blocks rest → DecodeRest (Some taken) (bytes ∷ blocks) (line ∷ rest)
+decode_ended taken line rest bytes blocks is d x = record {
+  body = [];
+  last = line;
+  after = rest;
+  joined = refl;
+  inner = tt;
+  ends = is;
+  decodes = subst (λ z. BlockDecodes z bytes) (sym (append-nil (texts taken))) d;
+  others = x;
+}
 
 -- ---- a line that begins another block
 
@@ -232,16 +245,7 @@ module _ (P : List ℕ → Type 0) (line : List ℕ) (rest : List (List ℕ)) wh
     λ w. after_end taken bytes is d w.blocks w.decode w.all,
     λ w. record {
       blocks = bytes ∷ w.1.blocks;
-      decode = record {
-        body = [];
-        last = line;
-        after = rest;
-        joined = refl;
-        inner = tt;
-        ends = is;
-        decodes = subst (λ z. BlockDecodes z bytes) (sym (append-nil (texts taken))) d;
-        others = w.1.decode;
-      };
+      decode = decode_ended taken line rest bytes w.1.blocks is d w.1.decode;
       some = inr (omega arith);
       all = (w.0, w.1.all);
     },

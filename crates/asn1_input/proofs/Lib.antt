@@ -1,6 +1,7 @@
 pub mod Blocks
 pub mod Boundaries
 pub mod Taking
+pub mod Rest
 pub mod Detected
 pub mod Cut
 pub mod Malformed

@@ -46,8 +46,11 @@ decodes_nothing lines end o k (no_body (encrypted headers header e found p q)) b
 decodes_nothing lines end o k (no_base64 body b n) bytes x = n.none bytes (subst (λ z. IsBase64 (concat z) bytes) (sym b.same) x.decodes)
 
 -- ---- one line
-last_text : (lines : List TextLine) (last : TextLine) (line : List ℕ) → last.text.now ≡ line → texts (lines ++ (last ∷ [])) ≡ texts lines ++ (line ∷ [])
+pub last_text : (lines : List TextLine) (last : TextLine) (line : List ℕ) → last.text.now ≡ line → texts (lines ++ (last ∷ [])) ≡ texts lines ++ (line ∷ [])
 last_text lines last line e = map-append (λ l. l.text.now) lines (last ∷ []) ∙ ap (λ z. texts lines ++ (z ∷ [])) e
+
+pub same_block : (r s : Result (Vec ℕ Global) WalkError) → Some r ≡ Some s → s ≡ r
+same_block r s e = ap (λ z. unwrap_or z r) (sym e)
 
 module _ (P : List ℕ → Type 0) (old new : PemReader) (line : List ℕ) (rest : List (List ℕ)) where
   by_state : (d e : Option (List TextLine)) → open_lines old ≡ d → open_lines new ≡ e → has_any new ≡ has_any old →
@@ -73,9 +76,6 @@ module _ (P : List ℕ → Type 0) (old new : PemReader) (line : List ℕ) (rest
       (subst (λ z. AwaitsFrom P (Some lines) (has_any old) (line ∷ rest) ↔ (P bytes × AwaitsFrom P z (has_any new) rest)) (sym g)
       (subst (λ z. AwaitsFrom P (Some lines) (has_any old) (line ∷ rest) ↔ (P bytes × AwaitsFrom P None z rest)) (sym a)
       (awaits_ended P line rest lines bytes (has_any old) end d)))
-
-  same_block : (r s : Result (Vec ℕ Global) WalkError) → Some r ≡ Some s → s ≡ r
-  same_block r s e = ap (λ z. unwrap_or z r) (sym e)
 
   pub goes_on_after : (r : Result (Vec ℕ Global) WalkError) → TakesLine old line (Some r) new → BlockHolds P r → Awaits P old (line ∷ rest) ↔ Awaits P new rest
   goes_on_after (Err f) t holds = absurd holds

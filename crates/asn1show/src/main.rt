@@ -66,10 +66,10 @@ fn show(
     let mut out = Output::new(BufWriter::new(rt.alloc(), rt.stdout())?);
     let shown = asn1show_lines::show(rt.alloc(), &mut out, mode, input_format, view, source.input);
     let flushed = out.flush();
-    shown?;
+    let conformance = shown?;
     flushed?;
     Ok(Listed {
-        conformance: out.conformance(),
+        conformance,
         is_missing: out.is_missing(),
     })
 }

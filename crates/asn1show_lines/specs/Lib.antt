@@ -1,1 +1,2 @@
+pub mod Conformance
 pub mod Input

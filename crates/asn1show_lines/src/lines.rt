@@ -3,6 +3,7 @@ ghost use Rattle.std.specs.Prelude.{◌≡◌, ◌≢◌, ◌⊎◌, ◌≤◌, 
 ghost use Rattle.yasna_base.specs.Grammar.{max_depth};
 ghost use Rattle.yasna_base.specs.Raw.{IsRaw, IsJoining};
 ghost use Rattle.asn1_input.specs.Input.{IsTakenAs};
+ghost use Rattle.asn1show_lines.specs.Conformance.{IsConformanceIn, MeetsLine};
 ghost use Rattle.asn1show_lines.specs.Input.{HoldsElements, HoldsNone};
 ghost use Rattle.asn1_input.specs.Reader.{has_any, open_lines, BlockFails, BlockHolds, GoesOn, IsFirstError, NeverComes};
 ghost use Rattle.asn1_input.specs.declared.input_format.InputFormat.{InputFormat};
@@ -133,19 +134,17 @@ fn show_counted<W: Write + Drop>(
     style: Style<'_>,
     mut line: LineBuffer,
     bytes: &[u8],
-) -> Result<(), WalkError>
+) -> Result<Conformance, WalkError>
     ensures raw { OnOk result (IsJoining (IsRaw mode max_depth) bytes.now) }
     ensures some { OnOk result (1 ≤ length bytes.now) }
     ensures elements { OnOk result (AreElements max_depth mode bytes.now) }
+    ensures conformance { style.entry.view.schema ≡ None → IfOk result (λ c. IsConformanceOf mode bytes.now c) }
     ensures fails { IfErr result (λ f. WalkFails IsExternal (NoElements max_depth mode bytes.now) f) }
 {
     let count = bytes.len();
     write!(line, "{count} bytes");
     begin(out, style, line)?;
-    match show_bytes(out, mode, style, bytes) {
-        Ok(_) => Ok(()),
-        Err(error) => Err(error),
-    }
+    show_bytes(out, mode, style, bytes)
 }
 
 // A line that begins with this text.
@@ -175,8 +174,9 @@ fn show_block<W: Write + Drop>(
     mode: BERMode,
     style: Style<'_>,
     block: &Block<'_>,
-) -> Result<(), WalkError>
+) -> Result<Conformance, WalkError>
     ensures elements { OnOk result (BlockHolds (AreElements max_depth mode) block.now.bytes) }
+    ensures conformance { style.entry.view.schema ≡ None → IfOk result (λ c. BlockHolds (λ bytes. IsConformanceOf mode bytes c) block.now.bytes) }
     ensures fails { IfErr result (λ f. WalkFails IsExternal (BlockFails (NoElements max_depth mode) block.now.bytes) f) }
 {
     let mut line = block_line(style, block.label);
@@ -226,8 +226,9 @@ fn show_whole_block<W: Write + Drop>(
     mode: BERMode,
     style: Style<'_>,
     block: &Block<'_>,
-) -> Result<(), WalkError>
+) -> Result<Conformance, WalkError>
     ensures elements { OnOk result (BlockHolds (AreElements max_depth mode) block.now.bytes) }
+    ensures conformance { style.entry.view.schema ≡ None → IfOk result (λ c. BlockHolds (λ bytes. IsConformanceOf mode bytes c) block.now.bytes) }
     ensures fails { IfErr result (λ f. WalkFails IsExternal (BlockFails (NoElements max_depth mode) block.now.bytes) f) }
 {
     let shown = show_block(out, mode, style, block);
@@ -239,20 +240,29 @@ fn show_whole_block<W: Write + Drop>(
     shown
 }
 
-// Takes a line of PEM, and lists the elements of the block that ends with it, if one does.
+// Takes a line of PEM, and lists the elements of the block that ends with it, if one does. The rules that these don't keep are dropped from the
+// conformance of the blocks before.
 fn show_line<'a, W: Write + Drop>(
     out: &mut Output<W>,
     mode: BERMode,
     style: Style<'_>,
     reader: &mut PemReader<'a>,
     line: &'a [u8],
+    conformance: &mut Conformance,
 ) -> Result<(), WalkError>
     ensures goes_on { OnOk result (GoesOn (AreElements max_depth mode) reader.old line.now reader.new) }
+    ensures conformance { style.entry.view.schema ≡ None → OnOk result (MeetsLine mode reader.old line.now reader.new conformance.old conformance.new) }
     ensures fails { IfErr result (λ f. WalkFails IsExternal (λ offset kind. NeverComes (AreElements max_depth mode) reader.old line.now) f) }
 {
-    match reader.push(line)? {
-        Some(block) => show_whole_block(out, mode, style, &block),
-        None => Ok(()),
+    let Some(block) = reader.push(line)? else {
+        return Ok(());
+    };
+    match show_whole_block(out, mode, style, &block) {
+        Ok(further) => {
+            conformance.meet(further);
+            Ok(())
+        }
+        Err(error) => Err(error),
     }
 }
 
@@ -267,9 +277,12 @@ fn show_end<W: Write + Drop>(
     ensures ends { OnOk result ((open_lines reader.old ≡ None) × (has_any reader.old ≡ true)) }
     ensures fails { IfErr result (λ f. WalkFails IsExternal (λ offset kind. (open_lines reader.old ≢ None) ⊎ (has_any reader.old ≡ false)) f) }
 {
-    match reader.finish(size)? {
-        Some(block) => show_whole_block(out, mode, style, &block),
-        None => Ok(()),
+    let Some(block) = reader.finish(size)? else {
+        return Ok(());
+    };
+    match show_whole_block(out, mode, style, &block) {
+        Ok(_) => Ok(()),
+        Err(error) => Err(error),
     }
 }
 
@@ -287,39 +300,45 @@ fn first_error(
     }
 }
 
-// Lists each block of PEM. If one is malformed, it is reported, and the next ones are listed. The first error is returned.
+// Lists each block of PEM, and returns the conformance of all. If one is malformed, it is reported, the next ones are listed, and the first error is
+// returned.
 fn show_blocks<W: Write + Drop>(
     out: &mut Output<W>,
     mode: BERMode,
     style: Style<'_>,
     input: &[u8],
-) -> Result<(), WalkError>
+) -> Result<Conformance, WalkError>
     ensures decodes { OnOk result (HoldsElements mode Pem input.now) }
+    ensures conformance { style.entry.view.schema ≡ None → IfOk result (λ c. IsConformanceIn mode Pem input.now c) }
     ensures fails { IfErr result (λ f. WalkFails IsExternal (HoldsNone mode Pem input.now) f) }
 {
     let text = text_of(input);
     let mut reader = PemReader::new(style.alloc, input.len() - text.len());
     let mut first = None;
+    let mut conformance = Conformance::new();
     let mut left = Some(text);
     while let Some(text) = left {
         let (line, after) = cut_line(text);
-        first = first_error(first, show_line(out, mode, style, &mut reader, line))?;
+        let shown = show_line(out, mode, style, &mut reader, line, &mut conformance);
+        first = first_error(first, shown)?;
         left = after;
     }
     let end = show_end(out, mode, style, &mut reader, input.len());
     match first_error(first, end)? {
         Some(error) => Err(error),
-        None => Ok(()),
+        None => Ok(conformance),
     }
 }
 
+// Lists the elements of hexadecimal.
 fn show_hex<W: Write + Drop>(
     out: &mut Output<W>,
     mode: BERMode,
     style: Style<'_>,
     input: &[u8],
-) -> Result<(), WalkError>
+) -> Result<Conformance, WalkError>
     ensures decodes { OnOk result (HoldsElements mode Hex input.now) }
+    ensures conformance { style.entry.view.schema ≡ None → IfOk result (λ c. IsConformanceIn mode Hex input.now c) }
     ensures fails { IfErr result (λ f. WalkFails IsExternal (HoldsNone mode Hex input.now) f) }
 {
     let text = text_of(input);
@@ -335,9 +354,10 @@ fn show_format<W: Write + Drop>(
     input_format: InputFormat,
     style: Style<'_>,
     input: &[u8],
-) -> Result<(), WalkError>
+) -> Result<Conformance, WalkError>
     ensures raw { OnOk result (input_format ≡ Bytes → IsJoining (IsRaw mode max_depth) input.now) }
     ensures decodes { OnOk result (HoldsElements mode input_format input.now) }
+    ensures conformance { style.entry.view.schema ≡ None → IfOk result (λ c. IsConformanceIn mode input_format input.now c) }
     ensures fails { IfErr result (λ f. WalkFails IsExternal (HoldsNone mode input_format input.now) f) }
 {
     match input_format {
@@ -354,9 +374,10 @@ fn show_input<W: Write + Drop>(
     input_format: Option<InputFormat>,
     style: Style<'_>,
     input: &[u8],
-) -> Result<(), WalkError>
+) -> Result<Conformance, WalkError>
     ensures raw { OnOk result (IsTakenAs input_format input.now Bytes → IsJoining (IsRaw mode max_depth) input.now) }
     ensures decodes { (taken : InputFormat) → IsTakenAs input_format input.now taken → OnOk result (HoldsElements mode taken input.now) }
+    ensures conformance { style.entry.view.schema ≡ None → (taken : InputFormat) → IsTakenAs input_format input.now taken → IfOk result (λ c. IsConformanceIn mode taken input.now c) }
     ensures fails { (taken : InputFormat) → IsTakenAs input_format input.now taken → IfErr result (λ f. WalkFails IsExternal (HoldsNone mode taken input.now) f) }
 {
     match input_format {
@@ -369,7 +390,7 @@ fn show_input<W: Write + Drop>(
 fn show_error<W: Write + Drop>(
     out: &mut Output<W>,
     style: Style<'_>,
-    listed: Result<(), WalkError>,
+    listed: Result<Conformance, WalkError>,
 ) -> Result<(), WalkError>
     ensures { IfErr result IsExternal }
 {
@@ -379,7 +400,7 @@ fn show_error<W: Write + Drop>(
             write!(line, "{error}");
             write_error(out, style.alloc, &line)
         }
-        Ok(()) | Err(_) => Ok(()),
+        Ok(_) | Err(_) => Ok(()),
     }
 }
 
@@ -390,9 +411,10 @@ fn show_page<W: Write + Drop>(
     input_format: Option<InputFormat>,
     style: Style<'_>,
     input: &[u8],
-) -> Result<(), WalkError>
+) -> Result<Conformance, WalkError>
     ensures raw { OnOk result (IsTakenAs input_format input.now Bytes → IsJoining (IsRaw mode max_depth) input.now) }
     ensures decodes { (taken : InputFormat) → IsTakenAs input_format input.now taken → OnOk result (HoldsElements mode taken input.now) }
+    ensures conformance { style.entry.view.schema ≡ None → (taken : InputFormat) → IsTakenAs input_format input.now taken → IfOk result (λ c. IsConformanceIn mode taken input.now c) }
     ensures fails { (taken : InputFormat) → IsTakenAs input_format input.now taken → IfErr result (λ f. WalkFails IsExternal (HoldsNone mode taken input.now) f) }
 {
     write_start(out, style.alloc)?;
@@ -402,10 +424,11 @@ fn show_page<W: Write + Drop>(
     listed
 }
 
-/// Lists the elements of an input in a mode, as a view of them says. If no format is given, it is detected.
+/// Lists the elements of an input in a mode, as a view of them says, and returns their conformance. If no format is given, it is detected.
 ///
 /// Returns Ok only if the input in this format is one or more elements that are well formed, in PEM each of one or more blocks. If an error
-/// is neither an I/O error nor out of memory, the input isn't such.
+/// is neither an I/O error nor out of memory, the input isn't such. Without a module, the conformance is to exactly the modes whose rules each
+/// element keeps that is in no string, in PEM each element of each block.
 pub fn show<W: Write + Drop>(
     alloc: Global,
     out: &mut Output<W>,
@@ -413,9 +436,10 @@ pub fn show<W: Write + Drop>(
     input_format: Option<InputFormat>,
     view: View<'_>,
     input: &[u8],
-) -> Result<(), WalkError>
+) -> Result<Conformance, WalkError>
     ensures raw { OnOk result (IsTakenAs input_format input.now Bytes → IsJoining (IsRaw mode max_depth) input.now) }
     ensures decodes { (taken : InputFormat) → IsTakenAs input_format input.now taken → OnOk result (HoldsElements mode taken input.now) }
+    ensures conformance { view.entry.schema ≡ None → (taken : InputFormat) → IsTakenAs input_format input.now taken → IfOk result (λ c. IsConformanceIn mode taken input.now c) }
     ensures fails { (taken : InputFormat) → IsTakenAs input_format input.now taken → IfErr result (λ f. WalkFails IsExternal (HoldsNone mode taken input.now) f) }
 {
     let names = Names::new(alloc)?;

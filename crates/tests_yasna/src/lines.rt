@@ -2,7 +2,9 @@
 
 use crate::checks::{finds_none, holds, spelled};
 use asn1show_lines::InputFormat::Hex;
-use asn1show_lines::{Extent, InputFormat, Layout, Numbers, Output, Selection, View, show};
+use asn1show_lines::{
+    Conformance, Extent, InputFormat, Layout, Numbers, Output, Selection, View, show,
+};
 use asn1show_walk::{Context, Place, WalkError, is_one_element};
 use std::alloc::Global;
 use yasna::BERMode::{Ber, Cer, Der};
@@ -72,12 +74,12 @@ pub(crate) const ALL: View<'static> = View {
 fn is_met(
     alloc: Global,
     written: &[u8],
-    outcome: Result<(), WalkError>,
+    outcome: Result<Conformance, WalkError>,
     expected: Expectation,
 ) -> ASN1Result<bool> {
     let text = std::str::from_utf8(written).unwrap_or("");
     match outcome {
-        Ok(()) => Ok(expected.is_met(text, "", false)),
+        Ok(_) => Ok(expected.is_met(text, "", false)),
         Err(error) => {
             let is_malformed = matches!(error, WalkError::Malformed { .. });
             Ok(expected.is_met(text, &error.to_string(alloc)?, is_malformed))
@@ -103,8 +105,13 @@ pub(crate) fn is_viewed(
         view,
         input.as_bytes(),
     );
-    let accepted = view.selection.accepts(output.conformance()) && !output.is_missing();
-    let is_as_asked = outcome.is_err() || accepted == is_accepted;
+    let is_as_asked = match outcome {
+        Ok(conformance) => {
+            let accepted = view.selection.accepts(conformance) && !output.is_missing();
+            accepted == is_accepted
+        }
+        Err(_) => true,
+    };
     Ok(is_as_asked && is_met(alloc, output.writer().as_slice(), outcome, expected)?)
 }
 
