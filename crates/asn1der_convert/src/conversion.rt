@@ -28,7 +28,7 @@ use crate::contents_class::{ContentsClass, class_of, is_constructed_type, is_pri
 use crate::error::{ConvertError, contents_error, expected_of, offset_of};
 use crate::segments::{StringKind, string_error};
 use crate::set_order::put_in_order;
-use crate::writing::{append_element, enclose_contents};
+use crate::writing::{append_contents, append_element, enclose_contents};
 use asn1_contents::contents_type::contents_type;
 use asn1_contents::der_contents::der_contents;
 use asn1_contents::plain::are_plain;
@@ -41,7 +41,7 @@ use yasna_base::tags::{TAG_BITSTRING, TAG_BOOLEAN};
 use yasna_bytes::bytes::contents::read_value;
 use yasna_bytes::bytes::cursor::Cursor;
 use yasna_bytes::bytes::header::{ContentsEnd, Opened, end_of_contents, open_after_identifier};
-use yasna_bytes::bytes::segments::{bit_string, octet_string};
+use yasna_bytes::bytes::segments::{bit_string, octet_string, whole_octets};
 use yasna_bytes::bytes::walk::prefix_before;
 
 /// An input in DER.
@@ -154,8 +154,27 @@ fn append_primitive(
     Ok(())
 }
 
-// Appends a string of octets, in one piece (X.690, 10.2), and in DER's form.
-fn convert_octets<'a>(
+// Appends a string of these octets, which begins here, in DER's form.
+fn append_string(
+    alloc: Global,
+    cursor: Cursor<'_>,
+    tag: Tag,
+    octets: Vec<u8>,
+    out: &mut Vec<u8>,
+) -> Result<(), ConvertError>
+    requires { IsStringTag tag }
+    ensures bytes { OnOk result (AppendsElementOf Ber tag octets.items out.old.items out.new.items) }
+    ensures rejection { IfErr result (λ e. (e ≡ Memory → ⊥) → (d : List ℕ) → HasContents (type_with tag) Ber d octets.items → ⊥) }
+{
+    if are_plain(contents_type(tag), &octets) {
+        append_contents(out, &[tag.tag_number as u8], octets)?;
+        return Ok(());
+    }
+    append_primitive(alloc, cursor, tag, &[tag.tag_number as u8], &octets, out)
+}
+
+// Appends a string of octets that is in segments, in one piece (X.690, 10.2), and in DER's form.
+fn convert_segments<'a>(
     alloc: Global,
     cursor: Cursor<'a>,
     tag: Tag,
@@ -173,7 +192,35 @@ fn convert_octets<'a>(
             return Err(string_error(alloc, cursor, tag, octets, rejection.kind));
         }
     };
-    match append_primitive(alloc, cursor, tag, &[tag.tag_number as u8], &octets, out) {
+    match append_string(alloc, cursor, tag, octets, out) {
+        Ok(()) => Ok(rest),
+        Err(error) => Err(error),
+    }
+}
+
+// Appends a string of octets in DER's form.
+fn convert_octets<'a>(
+    alloc: Global,
+    cursor: Cursor<'a>,
+    tag: Tag,
+    out: &mut Vec<u8>,
+) -> Result<&'a [u8], ConvertError>
+    requires mode { cursor.mode ≡ Ber }
+    requires string { IsStringTag tag }
+    requires begins { BeginsWithTag tag cursor.left.now }
+    ensures { PartAt cursor.entry.levels cursor.entry.mode cursor.entry.left.now out.old.items out.new.items result }
+{
+    let whole = match whole_octets(cursor, tag) {
+        Ok(whole) => whole,
+        Err(rejection) => {
+            let octets = StringKind::Octets;
+            return Err(string_error(alloc, cursor, tag, octets, rejection.kind));
+        }
+    };
+    let Some((octets, rest)) = whole else {
+        return convert_segments(alloc, cursor, tag, out);
+    };
+    match append_primitive(alloc, cursor, tag, &[tag.tag_number as u8], octets, out) {
         Ok(()) => Ok(rest),
         Err(error) => Err(error),
     }

@@ -67,3 +67,18 @@ pub fn enclose_contents(
     bytes[start..].rotate_right(header);
     Ok(())
 }
+
+/// Appends an element: this identifier, a length, and contents, which an empty output takes over.
+pub fn append_contents(
+    out: &mut Vec<u8>,
+    identifier: &[u8],
+    contents: Vec<u8>,
+) -> Result<(), AllocError>
+    ensures { OnOk result (out.new.items ≡ out.old.items ++ (identifier.now ++ (shortest_length (length contents.items) ++ contents.items))) }
+{
+    if out.is_empty() {
+        *out = contents;
+        return enclose_contents(out, 0, identifier);
+    }
+    append_element(out, identifier, &[], &contents)
+}
