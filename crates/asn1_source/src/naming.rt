@@ -19,9 +19,10 @@ pub fn is_used(names: &[Vec<u8>], name: &[u8]) -> bool {
 // Appends 2 to a name until it differs from those before it.
 fn distinct(names: &[Vec<u8>], mut name: Text) -> Text {
     for _ in 0..names.len() {
-        if is_used(names, name.as_slice()) {
-            name.say("2");
+        if !is_used(names, name.as_slice()) {
+            break;
         }
+        name.say("2");
     }
     name
 }
