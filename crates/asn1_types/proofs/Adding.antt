@@ -16,7 +16,8 @@ use Rattle.asn1_types.specs.declared.resolver.Resolver.{Resolver}
 use Rattle.asn1_types.specs.Context.{Context, IsAdded, IsUnchanged, context_of}
 use Rattle.asn1_types.specs.Definitions.{Continues, IsBodyOf, IsDefinition, alias, inside, inside_enumerated, is_choice, value, with_body}
 use Rattle.asn1_types.specs.Layers.{AreLayers}
-use Rattle.asn1_types.specs.Notations.{IsAssigned, IsBody, IsNotation, in_place}
+use Rattle.asn1_types.specs.Names.{IsAssigned}
+use Rattle.asn1_types.specs.Notations.{IsBody, IsEnumeratedAt, IsNotation, in_place}
 use Rattle.asn1_types.specs.Tags.{environment_of}
 use Rattle.asn1_types.proofs.Growing.{added_grows, continues_added, continues_at, continues_then, continues_unchanged, grow_body, grow_body_of, grow_notation}
 use Rattle.asn1_types.proofs.Later.{there_at_end}
@@ -39,6 +40,22 @@ module _ {a b : Context} {index assignment : ℕ} {place : Place} {tags : List T
     (added : IsAdded a b index place assignment tags body) where
   pub is_enumeration_inside : (items : Enumeration) → tags ≡ [] → body ≡ bodies.Enumerated items → IsDefinition b added.definition
   is_enumeration_inside items none is = inside_enumerated (added.tags_are ∙ none) (added.body_is ∙ is)
+
+  there : slice_get b.definitions index ≡ Some added.definition
+  there =
+      let at_end : slice_get (a.definitions ++ added.definition ∷ []) index ≡ Some added.definition =
+      subst (λ (i : ℕ). slice_get (a.definitions ++ added.definition ∷ []) i ≡ Some added.definition) (sym added.at)
+      (there_at_end a.definitions added.definition) in
+      subst (λ (l : List Definition). slice_get l index ≡ Some added.definition) (sym added.definitions) at_end
+
+  pub is_enumerated_at : (items : Enumeration) → tags ≡ [] → body ≡ bodies.Enumerated items → IsEnumeratedAt b index
+  is_enumerated_at items none is = record {
+    definition = added.definition;
+    items = items;
+    there = there;
+    tags = added.tags_are ∙ none;
+    body = added.body_is ∙ is;
+  }
 
   module_is : (m : ℕ) → place.module ≡ m → added.definition.place.module ≡ m
   module_is m at = subst (λ (x : Place). x.module ≡ m) (sym added.place_is) at
@@ -93,12 +110,14 @@ module _ {a b : Context} {index assignment : ℕ} {place : Place} {tags : List T
   pub is_in_place : (m : ℕ) (word : Token) (parts : Vec (Component TypeNotation)) → tags ≡ [] → IsBody a m word parts.items body →
       IsNotation b m (trees.Constructed word parts) (notations.Defined index)
   is_in_place m word parts none is =
-      let at_end : slice_get (a.definitions ++ added.definition ∷ []) index ≡ Some added.definition =
-      subst (λ (i : ℕ). slice_get (a.definitions ++ added.definition ∷ []) i ≡ Some added.definition) (sym added.at)
-      (there_at_end a.definitions added.definition) in
-      let there : slice_get b.definitions index ≡ Some added.definition =
-      subst (λ (l : List Definition). slice_get l index ≡ Some added.definition) (sym added.definitions) at_end in
       in_place parts there (added.tags_are ∙ none) (body_there m word parts.items is)
+
+-- the same of a result
+pub as_enumerated_at : (a b : Context) (assignment : ℕ) (place : Place) {tags : List TagLayer} {body : Body} (r : Result ℕ Stop) →
+    IfOk r (λ index. IsAdded a b index place assignment tags body) → (items : Enumeration) → tags ≡ [] → body ≡ bodies.Enumerated items →
+    IfOk r (IsEnumeratedAt b)
+as_enumerated_at a b assignment place (Ok index) added items none is = is_enumerated_at added items none is
+as_enumerated_at a b assignment place (Err e) added items none is = tt
 
 pub unchanged_then : {a b c : Resolver} → IsUnchanged a b → IsUnchanged b c → IsUnchanged a c
 unchanged_then g h = record { context = h.context ∙ g.context; assignment = h.assignment ∙ g.assignment }

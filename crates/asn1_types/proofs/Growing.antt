@@ -1,5 +1,5 @@
 -- What is resolved holds while more is resolved.
-use Rattle.std.proofs.Common.{◌≡◌, ℕ, List, [], ◌∷◌, ◌++◌, Option, Some, length, refl, sym, subst, ◌∙◌}
+use Rattle.std.proofs.Common.{◌≡◌, ℕ, List, [], ◌∷◌, ◌++◌, Option, refl, sym, subst, ◌∙◌}
 use Rattle.asn1_types.specs.declared.components.WrittenPart.{WrittenPart}
 use Rattle.asn1_types.specs.declared.model.Body.{Body}
 use Rattle.asn1_types.specs.declared.model.Definition.{Definition}
@@ -9,41 +9,66 @@ use Rattle.asn1_types.specs.declared.model.Part.{Part}
 use Rattle.asn1_types.specs.declared.model.Place.{Place}
 use Rattle.asn1_types.specs.declared.model.TagLayer.{TagLayer}
 use Rattle.asn1_types.specs.declared.resolver.Resolver.{Resolver}
+use Rattle.asn1_types.specs.declared.scope.AssignmentPlace.{AssignmentPlace}
 use Rattle.asn1_types.specs.declared.tags_of_types.TagSet.{TagSet}
 use Rattle.asn1_types.specs.Context.{Context, Grows, IsAdded, IsUnchanged, Stays, context_of}
 use Rattle.asn1_types.specs.Definitions.{AreDefinitions, AreResolved, Continues, IsBodyOf, IsDefinition}
 use Rattle.asn1_types.specs.Definitions as definitions_are
-use Rattle.asn1_types.specs.Notations.{AreParts, IsBody, IsNotation, IsPlain}
+use Rattle.asn1_types.specs.Notations.{AreParts, IsBody, IsDefinedAt, IsNotation, IsOwn, IsPlain}
 use Rattle.asn1_types.specs.Notations as notations_are
 use Rattle.asn1_types.specs.Untagged.{IsUntaggedWithin}
 use Rattle.asn1_types.proofs.Later.{finished_later, stays_in_more, tagged_later, untagged_within_later}
 use Rattle.asn1_syntax.specs.declared.token.Token.{Token}
 use Rattle.asn1_syntax.specs.declared.tree.Component.{Component}
 use Rattle.asn1_syntax.specs.declared.tree.Module.{Module}
+use Rattle.asn1_syntax.specs.declared.tree.PlainType.{PlainType}
 use Rattle.asn1_syntax.specs.declared.tree.TypeNotation.{TypeNotation}
 
 abbrev pub later_of : Context → List Definition → List TagSet → Context
 later_of c ds ss = record { modules = c.modules; known = c.known; definitions = ds; sets = ss }
 
 module _ (c : Context) (ds : List Definition) (ss : List TagSet) (more_ds : Stays c.definitions ds) (more_ss : Stays c.sets ss) where
+  defined_later : {place : AssignmentPlace} (i : ℕ) → IsDefinedAt c place i → IsDefinedAt (later_of c ds ss) place i
+  defined_later i is = record {
+    definition = is.definition;
+    there = is.there;
+    defined = more_ds i is.definition is.defined;
+    assigned = is.assigned;
+    «module» = is.«module»;
+    offset = is.offset;
+    assignment = is.assignment;
+  }
+
+  own_later : {n : Notation} → IsOwn c n → IsOwn (later_of c ds ss) n
+  own_later (notations_are.without_tag is) = notations_are.without_tag is
+  own_later (notations_are.enumerated {index = i} is at) = notations_are.enumerated is (record {
+    definition = at.definition;
+    items = at.items;
+    there = more_ds i at.definition at.there;
+    tags = at.tags;
+    body = at.body;
+  })
+
   mutual
     pub notation_later : {m : ℕ} {t : TypeNotation} {n : Notation} → IsNotation c m t n → IsNotation (later_of c ds ss) m t n
     notation_later (notations_are.plain is) = notations_are.plain (plain_later is)
     notation_later (notations_are.under_tag is tagged) = notations_are.under_tag (notation_later is) (tagged_later c.known c.sets ss more_ss tagged)
-    notation_later (notations_are.selected is) = notations_are.selected (notation_later is)
+    notation_later (notations_are.selected of is) = notations_are.selected of (notation_later is)
     notation_later (notations_are.list is made) = notations_are.list (notation_later is) made
     notation_later (notations_are.in_place {index = i} parts {definition = d} there tags is) =
         notations_are.in_place parts (more_ds i d there) tags (body_later is)
     notation_later (notations_are.with_constraints is constrained) = notations_are.with_constraints (notation_later is) constrained
 
-    pub plain_later : {n : Notation} → IsPlain c n → IsPlain (later_of c ds ss) n
-    plain_later (notations_are.without_tag is) = notations_are.without_tag is
-    plain_later (notations_are.of_name assigned is) = notations_are.of_name assigned (notation_later is)
+    pub plain_later : {m : ℕ} {t : PlainType} {n : Notation} → IsPlain c m t n → IsPlain (later_of c ds ss) m t n
+    plain_later (notations_are.own is) = notations_are.own (own_later is)
+    plain_later (notations_are.of_crate refers) = notations_are.of_crate refers
+    plain_later (notations_are.of_definition {index = i} refers is) = notations_are.of_definition refers (defined_later i is)
+    plain_later (notations_are.of_name refers assigned is) = notations_are.of_name refers assigned (notation_later is)
     plain_later (notations_are.in_itself is) = notations_are.in_itself is
 
     pub body_later : {m : ℕ} {word : Token} {components : List (Component TypeNotation)} {body : Body} → IsBody c m word components body →
         IsBody (later_of c ds ss) m word components body
-    body_later (notations_are.of_parts numbers parts has) = notations_are.of_parts numbers (parts_later parts) has
+    body_later (notations_are.of_parts are numbers parts has) = notations_are.of_parts are numbers (parts_later parts) has
 
     pub parts_later : {numbers : List (Option ℕ)} {written : List WrittenPart} {parts : List Part} → AreParts c numbers written parts →
         AreParts (later_of c ds ss) numbers written parts
@@ -78,8 +103,8 @@ carry F c k g is =
 pub grow_notation : {c k : Context} → Grows c k → {m : ℕ} {t : TypeNotation} {n : Notation} → IsNotation c m t n → IsNotation k m t n
 grow_notation {c} {k} g {m} {t} {n} is = carry (λ x. IsNotation x m t n) c k g (notation_later c k.definitions k.sets g.definitions g.sets is)
 
-pub grow_plain : {c k : Context} → Grows c k → {n : Notation} → IsPlain c n → IsPlain k n
-grow_plain {c} {k} g {n} is = carry (λ x. IsPlain x n) c k g (plain_later c k.definitions k.sets g.definitions g.sets is)
+pub grow_plain : {c k : Context} → Grows c k → {m : ℕ} {t : PlainType} {n : Notation} → IsPlain c m t n → IsPlain k m t n
+grow_plain {c} {k} g {m} {t} {n} is = carry (λ x. IsPlain x m t n) c k g (plain_later c k.definitions k.sets g.definitions g.sets is)
 
 pub grow_body : {c k : Context} → Grows c k → {m : ℕ} {word : Token} {components : List (Component TypeNotation)} {body : Body} →
     IsBody c m word components body → IsBody k m word components body

@@ -1,5 +1,5 @@
 -- What is said of notations holds of more definitions too.
-use Rattle.std.proofs.Common.{◌≡◌, ◌∙◌, ℕ, zero, suc, List, [], ◌∷◌, ◌++◌, Option, Some, None, Bool, length, refl, sym, subst, ap}
+use Rattle.std.proofs.Common.{◌≡◌, ◌∙◌, ℕ, zero, suc, List, [], ◌∷◌, ◌++◌, Option, Some, None, Bool, length, refl, ap}
 use Rattle.std.specs.List.{slice_get}
 use Rattle.asn1_types.specs.declared.components.WrittenPart.{WrittenPart}
 use Rattle.asn1_types.specs.declared.model.Body.{Body}

@@ -1,5 +1,5 @@
 -- The layers of tags, from the facts that a proof has of them.
-use Rattle.std.proofs.Common.{◌≡◌, ◌++◌, ◌∷◌, [], List, Bool, false, not, subst, sym}
+use Rattle.std.proofs.Common.{◌≡◌, ◌++◌, ◌∷◌, [], List, Bool, not, subst, sym}
 use Rattle.std.specs.Global.{Box, Vec}
 use Rattle.asn1_types.specs.declared.model.TagLayer.{TagLayer}
 use Rattle.asn1_types.specs.Layers.{AreLayers, no_more, one_more, past_constraints}

@@ -5,3 +5,5 @@ pub mod Growing
 pub mod Adding
 pub mod Steps
 pub mod Searches
+pub mod Meaning
+pub mod Writing

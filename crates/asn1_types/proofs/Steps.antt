@@ -1,11 +1,14 @@
 -- The steps by which a type is resolved.
-use Rattle.std.proofs.Common.{◌≡◌, ◌∙◌, ◌∷◌, ◌++◌, ◌+◌, ◌<◌, ℕ, Bool, List, [], Option, Result, Ok, Err, sym, subst, ap, take, get_or, length, refl, arith}
+use Rattle.std.proofs.Common.{◌≡◌, ◌∙◌, ◌∷◌, ◌++◌, ◌+◌, ◌<◌, ℕ, Bool, List, [], Option, Some, None, Result, Ok, Err, sym, subst, ap, take, get_or, length, arith}
 use Rattle.std.proofs.lemmas.List.{length-take-le, take_more}
 use Rattle.std.specs.Global.{Box, Vec}
+use Rattle.std.specs.Option.{IfSome}
 use Rattle.std.specs.Result.{IfOk, OnErr}
+use Rattle.asn1_types.specs.declared.components.Section.{Section}
 use Rattle.asn1_types.specs.declared.components.WrittenPart.{WrittenPart}
 use Rattle.asn1_types.specs.declared.model.Body.{Body}
 use Rattle.asn1_types.specs.declared.model.Definition.{Definition}
+use Rattle.asn1_types.specs.declared.model.KnownType.{KnownType}
 use Rattle.asn1_types.specs.declared.model.Notation.{Notation}
 use Rattle.asn1_types.specs.declared.model.Notation.TheVariants as notations
 use Rattle.asn1_types.specs.declared.model.Part.{Part}
@@ -14,19 +17,25 @@ use Rattle.asn1_types.specs.declared.model.Size.{Size}
 use Rattle.asn1_types.specs.declared.model.TagLayer.{TagLayer}
 use Rattle.asn1_types.specs.declared.problem.Stop.{Stop}
 use Rattle.asn1_types.specs.declared.resolver.Resolver.{Resolver}
+use Rattle.asn1_types.specs.declared.scope.AssignmentPlace.{AssignmentPlace}
+use Rattle.asn1_types.specs.declared.scope.Meaning.{Meaning}
+use Rattle.asn1_types.specs.declared.scope.Meaning.TheVariants as meanings
 use Rattle.asn1_types.specs.declared.tags_of_types.TagSet.{TagSet}
 use Rattle.asn1_types.specs.Bounds.{DiffersInBounds, IsConstrained}
 use Rattle.asn1_types.specs.Context.{Context, Grows, IsAdded, IsUnchanged, context_of}
 use Rattle.asn1_types.specs.Definitions.{AreDefinitions, AreResolved, Continues, no_definitions}
-use Rattle.asn1_types.specs.Notations.{AreParts, HasParts, IsAssigned, IsBody, IsInItself, IsListOf, IsNotation, IsPlain, IsWithoutTag, is_set, list_by, number_of_part}
+use Rattle.asn1_types.specs.Cores.{IsAlternative}
+use Rattle.asn1_types.specs.Names.{IsAssigned, Refers}
+use Rattle.asn1_types.specs.Notations.{AreParts, HasParts, IsBody, IsInItself, IsListOf, IsNotation, IsOwn, IsPlain, IsWithoutTag, is_set, list_by, number_of_part}
 use Rattle.asn1_types.specs.Notations as notations_are
 use Rattle.asn1_types.specs.Numbers.{AreNumbers}
 use Rattle.asn1_types.specs.Parts.{IsFinished}
 use Rattle.asn1_types.specs.PartsOf.{ArePartsOf, IsPartOf}
 use Rattle.asn1_types.specs.Tagged.{IsTaggedBy}
 use Rattle.asn1_types.specs.Tags.{environment_of}
+use Rattle.asn1_types.specs.Written.{AreWritten}
 use Rattle.asn1_types.proofs.Adding.{continues_outcome, is_in_place, is_inside}
-use Rattle.asn1_types.proofs.Growing.{continues_at, continues_then, grow_notation, grow_parts}
+use Rattle.asn1_types.proofs.Growing.{grow_parts}
 use Rattle.asn1_syntax.specs.declared.token.Token.{Token}
 use Rattle.asn1_syntax.specs.declared.tree.Component.{Component}
 use Rattle.asn1_syntax.specs.declared.tree.ListHead.{ListHead}
@@ -61,8 +70,31 @@ continues_within {a} {c} {d} {e} before g after same =
 pub assigned_in : {k c : Context} {m assignment : ℕ} {t : TypeNotation} → Grows k c → IsAssigned k.modules m assignment t → IsAssigned c.modules m assignment t
 assigned_in {m = m} {assignment} {t} g is = subst (λ (x : List Module). IsAssigned x m assignment t) (sym g.modules) is
 
+-- the parts of braces, in a context with the same modules
+pub written_in : {k c : Context} (m : ℕ) (components : List (Component TypeNotation)) (section : Section) (written : List WrittenPart) → Grows k c →
+    AreWritten k.modules k.known m components section written → AreWritten c.modules c.known m components section written
+written_in {k} {c} m components section written g are =
+    subst (λ (ms : List Module). AreWritten ms c.known m components section written) (sym g.modules)
+    (subst (λ (ks : List KnownType). AreWritten k.modules ks m components section written) (sym g.known) are)
+
+-- an alternative, in a context with the same modules
+pub alternative_in : {k c : Context} (m from n : ℕ) (choice given t : TypeNotation) (name : Token) → Grows k c → from ≡ m → given ≡ choice →
+    IsAlternative k.modules k.known from given name n t → IsAlternative c.modules c.known m choice name n t
+alternative_in {k} {c} m from n choice given t name g at same is =
+    subst (λ (ms : List Module). IsAlternative ms c.known m choice name n t) (sym g.modules)
+    (subst (λ (ks : List KnownType). IsAlternative k.modules ks m choice name n t) (sym g.known)
+    (subst (λ (x : ℕ). IsAlternative k.modules k.known x choice name n t) at
+    (subst (λ (u : TypeNotation). IsAlternative k.modules k.known from u name n t) same is)))
+
+-- what words refer to, in a context with the same modules
+pub refers_in : {k c : Context} {m : ℕ} {words : List Token} {x : Meaning} → Grows k c → Refers k.modules k.known m words x →
+    Refers c.modules c.known m words x
+refers_in {k} {c} {m} {words} {x} g is =
+    subst (λ (ms : List Module). Refers ms c.known m words x) (sym g.modules)
+    (subst (λ (ks : List KnownType). Refers k.modules ks m words x) (sym g.known) is)
+
 module _ (k : Context) (m : ℕ) (v : TypeNotation) where
-  pub as_plain : (t : PlainType) (r : Result Notation Stop) → v ≡ trees.Plain t → IfOk r (IsPlain k) → IfOk r (IsNotation k m v)
+  pub as_plain : (t : PlainType) (r : Result Notation Stop) → v ≡ trees.Plain t → IfOk r (IsPlain k m t) → IfOk r (IsNotation k m v)
   as_plain t (Ok n) is of = subst (λ (u : TypeNotation). IsNotation k m u n) (sym is) (notations_are.plain of)
   as_plain t (Err e) is of = tt
 
@@ -72,9 +104,9 @@ module _ (k : Context) (m : ℕ) (v : TypeNotation) where
   as_tagged tag inner n (Err e) is of tagged = tt
 
   pub as_selected : (name : Token) (inner : Box TypeNotation) (other : ℕ) (t : TypeNotation) (r : Result Notation Stop) →
-      v ≡ trees.Selected name inner → IfOk r (IsNotation k other t) → IfOk r (IsNotation k m v)
-  as_selected name inner other t (Ok n) is of = subst (λ (u : TypeNotation). IsNotation k m u n) (sym is) (notations_are.selected of)
-  as_selected name inner other t (Err e) is of = tt
+      v ≡ trees.Selected name inner → IsAlternative k.modules k.known m inner.value name other t → IfOk r (IsNotation k other t) → IfOk r (IsNotation k m v)
+  as_selected name inner other t (Ok n) is chosen of = subst (λ (u : TypeNotation). IsNotation k m u n) (sym is) (notations_are.selected chosen of)
+  as_selected name inner other t (Err e) is chosen of = tt
 
   pub as_list : (head : ListHead) (inner : Box TypeNotation) (n : Notation) (r : Result Notation Stop) → v ≡ trees.ListOf head inner →
       IsNotation k m inner.value n → IfOk r (IsListOf head.word n) → IfOk r (IsNotation k m v)
@@ -87,24 +119,29 @@ module _ (k : Context) (m : ℕ) (v : TypeNotation) where
       subst (λ (u : TypeNotation). IsNotation k m u outer) (sym is) (notations_are.with_constraints of made)
   as_constrained inner constraints n (Err e) is of made = tt
 
-pub as_without_tag : (k : Context) (r : Result Notation Stop) → IfOk r IsWithoutTag → IfOk r (IsPlain k)
-as_without_tag k (Ok n) is = notations_are.without_tag is
-as_without_tag k (Err e) is = tt
+-- a type with a word of its own, or an open type
+pub as_own : (k : Context) (r : Result (Option Notation) Stop) → IfOk r (λ found. IfSome found IsWithoutTag) → IfOk r (λ found. IfSome found (IsOwn k))
+as_own k (Ok (Some n)) is = notations_are.without_tag is
+as_own k (Ok None) is = tt
+as_own k (Err e) is = tt
 
-pub as_in_itself : (k : Context) (r : Result Notation Stop) → IfOk r IsInItself → IfOk r (IsPlain k)
-as_in_itself k (Ok n) is = notations_are.in_itself is
-as_in_itself k (Err e) is = tt
+pub as_in_itself : (k : Context) (m : ℕ) (t : PlainType) (r : Result Notation Stop) → IfOk r IsInItself → IfOk r (IsPlain k m t)
+as_in_itself k m t (Ok n) is = notations_are.in_itself is
+as_in_itself k m t (Err e) is = tt
 
 -- the notation of an assigned type is that of its name
-pub as_name : {k c : Context} {m at assignment : ℕ} {t : TypeNotation} {n : Notation} → Grows k c → IsAssigned k.modules m assignment t → at ≡ m →
-    IsNotation c at t n → IsPlain c n
-as_name {c = c} {t = t} {n = n} g assigned is of = notations_are.of_name (assigned_in g assigned) (subst (λ (x : ℕ). IsNotation c x t n) is of)
+pub as_name : {k c : Context} (user : ℕ) (name : PlainType) (place : AssignmentPlace) {at : ℕ} {t : TypeNotation} {n : Notation} → Grows k c →
+    Refers k.modules k.known user name.words.items (meanings.Assigned place) → IsAssigned k.modules place.«module» place.assignment t →
+    at ≡ place.«module» → IsNotation c at t n → IsPlain c user name n
+as_name {c = c} user name place {t = t} {n = n} g refers assigned is of =
+    notations_are.of_name (refers_in g refers) (assigned_in g assigned) (subst (λ (x : ℕ). IsNotation c x t n) is of)
 
 -- the same of a result
-pub as_named : {k : Context} (c : Context) {m : ℕ} (at : ℕ) {assignment : ℕ} {t : TypeNotation} (r : Result Notation Stop) → Grows k c →
-    IsAssigned k.modules m assignment t → at ≡ m → IfOk r (IsNotation c at t) → IfOk r (IsPlain c)
-as_named c at (Ok n) g assigned is of = as_name g assigned is of
-as_named c at (Err e) g assigned is of = tt
+pub as_named : {k : Context} (c : Context) (user : ℕ) (name : PlainType) (place : AssignmentPlace) (at : ℕ) {t : TypeNotation}
+    (r : Result Notation Stop) → Grows k c → Refers k.modules k.known user name.words.items (meanings.Assigned place) →
+    IsAssigned k.modules place.«module» place.assignment t → at ≡ place.«module» → IfOk r (IsNotation c at t) → IfOk r (IsPlain c user name)
+as_named c user name place at (Ok n) g refers assigned is of = as_name user name place g refers assigned is of
+as_named c user name place at (Err e) g refers assigned is of = tt
 
 pub as_list_of : (word : Token) (element : Notation) (content : Box Notation) (size : Size) (flag : Bool) (n : Notation) (r : Result Notation Stop) →
     content.value ≡ element → n ≡ list_by flag content size → flag ≡ is_set word → IfOk r (DiffersInBounds n) → IfOk r (IsListOf word element)
@@ -138,9 +175,10 @@ as_in_place e place assignment m word parts v (Ok i) is added none of =
 as_in_place e place assignment m word parts v (Err x) is added none of = tt
 
 pub as_body : {k : Context} {m : ℕ} (word : Token) (components : List (Component TypeNotation)) {written : List WrittenPart} {parts : List Part}
-    (r : Result Body Stop) → ArePartsOf k m written parts → IfOk r (HasParts word parts) → IfOk r (IsBody k m word components)
-as_body word components (Ok body) of has = notations_are.of_parts of.are_numbers of.are has
-as_body word components (Err e) of has = tt
+    {section : Section} (r : Result Body Stop) → AreWritten k.modules k.known m components section written → ArePartsOf k m written parts →
+    IfOk r (HasParts word parts) → IfOk r (IsBody k m word components)
+as_body word components (Ok body) are of has = notations_are.of_parts are of.are_numbers of.are has
+as_body word components (Err e) are of has = tt
 
 pub as_part : {k : Context} (w : WrittenPart) (number : Option ℕ) {n : Notation} (r : Result Part Stop) → IsNotation k w.module w.notation.now n →
     IfOk r (IsFinished k.known k.sets w number n) → IfOk r (IsPartOf k w number)

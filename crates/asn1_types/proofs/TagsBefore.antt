@@ -7,7 +7,7 @@ use Rattle.asn1_syntax.specs.declared.tree.ListHead.{ListHead}
 use Rattle.asn1_syntax.specs.declared.tree.PlainType.{PlainType}
 use Rattle.asn1_syntax.specs.declared.tree.TagNotation.{TagNotation}
 use Rattle.asn1_syntax.specs.declared.tree.TypeNotation.{TypeNotation}
-use Rattle.asn1_syntax.specs.declared.tree.TypeNotation.TheFolds.{fold-TypeNotation, fold-roll-TypeNotation}
+use Rattle.asn1_syntax.specs.declared.tree.TypeNotation.TheFolds.{fold-roll-TypeNotation}
 use Rattle.asn1_syntax.specs.declared.tree.TypeNotation.TheOpen as open_types
 use Rattle.asn1_syntax.specs.declared.tree.TypeNotation.TheVariants.{Plain, Tagged, Selected, ListOf, Constructed, Constrained, rolls-Plain, rolls-Tagged, rolls-Selected, rolls-ListOf, rolls-Constructed, rolls-Constrained}
 use Rattle.asn1_types.specs.Trees.{has_tag_before, tag_step}

@@ -1,6 +1,6 @@
 -- Definitions, as X.680 has them of what modules write.
 use Rattle.std.specs.Prelude.{◌≡◌, ℕ, Bool, true, false, List, [], ◌∷◌, ◌++◌}
-use Rattle.std.specs.Global.{Box, Vec}
+use Rattle.std.specs.Global.{Vec}
 use Rattle.asn1_types.specs.declared.model.Body.{Body}
 use Rattle.asn1_types.specs.declared.model.Body.TheVariants as bodies
 use Rattle.asn1_types.specs.declared.model.Definition.{Definition}
@@ -10,21 +10,15 @@ use Rattle.asn1_types.specs.declared.resolver.Resolver.{Resolver}
 use Rattle.asn1_types.specs.declared.tags_of_types.TagSet.{TagSet}
 use Rattle.asn1_types.specs.Context.{Context, Grows, context_of}
 use Rattle.asn1_types.specs.Layers.{AreLayers}
-use Rattle.asn1_types.specs.Notations.{IsAssigned, IsBody, IsNotation}
+use Rattle.asn1_types.specs.Names.{IsAssigned}
+use Rattle.asn1_types.specs.Notations.{IsBody, IsNotation}
 use Rattle.asn1_types.specs.Tags.{environment_of}
+use Rattle.asn1_types.specs.Trees.{IsWithin}
 use Rattle.asn1_types.specs.Untagged.{IsUntaggedWithin}
 use Rattle.asn1_syntax.specs.declared.token.Token.{Token}
 use Rattle.asn1_syntax.specs.declared.tree.Component.{Component}
-use Rattle.asn1_syntax.specs.declared.tree.TagNotation.{TagNotation}
 use Rattle.asn1_syntax.specs.declared.tree.TypeNotation.{TypeNotation}
 use Rattle.asn1_syntax.specs.declared.tree.TypeNotation.TheVariants as trees
-
--- the second type is the first one, without some of the tags before it and the constraints after it
-pub data IsWithin (t : TypeNotation) : TypeNotation → Type 0 where
-  itself : IsWithin t t
-  past_tag : {u : TypeNotation} {tag : TagNotation} {inner : Box TypeNotation} → IsWithin t u → u ≡ trees.Tagged tag inner → IsWithin t inner.value
-  past_constraints : {u : TypeNotation} {inner : Box TypeNotation} {constraints : Vec (Vec Token)} → IsWithin t u →
-      u ≡ trees.Constrained inner constraints → IsWithin t inner.value
 
 abbrev pub is_choice : Body → Bool
 is_choice (bodies.Sequence components) = false

@@ -9,6 +9,8 @@ pub mod Parts
 pub mod Bounds
 pub mod Context
 pub mod Names
+pub mod Cores
+pub mod Written
 pub mod Notations
 pub mod Definitions
 pub mod PartsOf

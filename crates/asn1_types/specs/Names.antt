@@ -13,6 +13,7 @@ use Rattle.asn1_syntax.specs.declared.tree.Assignment.{Assignment}
 use Rattle.asn1_syntax.specs.declared.tree.Assignment.TheVariants as assignments
 use Rattle.asn1_syntax.specs.declared.tree.Import.{Import}
 use Rattle.asn1_syntax.specs.declared.tree.Module.{Module}
+use Rattle.asn1_syntax.specs.declared.tree.TypeNotation.{TypeNotation}
 
 -- whether a lexical item has this text
 abbrev pub has_text : List ℕ → Token → Bool
@@ -25,6 +26,24 @@ name_of (assignments.Value name t tokens) = name
 name_of (assignments.ParameterizedType name parameters t) = name
 name_of (assignments.ParameterizedValue name parameters t tokens) = name
 name_of (assignments.Class name parameters fields) = name
+
+-- the type that an assignment gives a name
+abbrev pub assigned_by : Assignment → Option TypeNotation
+assigned_by (assignments.Type name t) = Some t
+assigned_by (assignments.Value name t tokens) = None
+assigned_by (assignments.ParameterizedType name parameters t) = Some t
+assigned_by (assignments.ParameterizedValue name parameters t tokens) = None
+assigned_by (assignments.Class name parameters fields) = None
+
+abbrev pub assignment_there : Option Module → ℕ → Option Assignment
+assignment_there None assignment = None
+assignment_there (Some m) assignment = slice_get m.assignments.items assignment
+
+-- a type is assigned in the module at an index, by the assignment at an index there
+pub record IsAssigned (modules : List Module) (m assignment : ℕ) (t : TypeNotation) : Type 0 where
+  pub there : Assignment
+  pub is : assignment_there (slice_get modules m) assignment ≡ Some there
+  pub assigns : assigned_by there ≡ Some t
 
 -- 13.15: the index of the assignment of a name in a module. Two assignments of one name are rejected, and the first of them is taken
 abbrev pub assigned_index : List ℕ → Module → Option ℕ

@@ -1,5 +1,5 @@
 -- The notations of types, and the bodies of SEQUENCEs, SETs and CHOICEs, as X.680 has them of what modules write.
-use Rattle.std.specs.Prelude.{◌≡◌, ◌⊎◌, ℕ, Bool, true, false, List, Option, Some, None, [], ◌∷◌, ◌++◌, length, map, codes, slice_get}
+use Rattle.std.specs.Prelude.{◌≡◌, ℕ, Bool, true, false, List, Option, Some, None, [], ◌∷◌, ◌++◌, length, map, codes, slice_get}
 use Rattle.std.specs.Global.{Box, Vec}
 use Rattle.std.specs.Str.{bytes_eq}
 use Rattle.asn1_types.specs.declared.components.WrittenPart.{WrittenPart}
@@ -15,24 +15,29 @@ use Rattle.asn1_types.specs.declared.model.Size.{Size}
 use Rattle.asn1_types.specs.declared.model.TagLayer.{TagLayer}
 use Rattle.asn1_types.specs.declared.model.TagMode.TheVariants as modes
 use Rattle.asn1_types.specs.declared.model.TextKind.{TextKind}
+use Rattle.asn1_types.specs.declared.components.Section.{Section}
+use Rattle.asn1_types.specs.declared.model.Enumeration.{Enumeration}
+use Rattle.asn1_types.specs.declared.scope.AssignmentPlace.{AssignmentPlace}
+use Rattle.asn1_types.specs.declared.scope.Meaning.TheVariants as meanings
 use Rattle.asn1_types.specs.Bounds.{DiffersInBounds, IsConstrained}
 use Rattle.asn1_types.specs.Context.{Context}
+use Rattle.asn1_types.specs.Cores.{IsAlternative}
+use Rattle.asn1_types.specs.Names.{IsAssigned, Refers, assignment_there, name_of}
 use Rattle.asn1_types.specs.Numbers.{AreNumbers}
 use Rattle.asn1_types.specs.Parts.{IsFinished}
 use Rattle.asn1_types.specs.Tagged.{IsTaggedBy, IsUnder}
 use Rattle.asn1_types.specs.Tags.{environment_of}
+use Rattle.asn1_types.specs.Written.{AreWritten}
 use Rattle.asn1_syntax.specs.declared.token.Token.{Token}
 use Rattle.asn1_syntax.specs.declared.tree.Assignment.{Assignment}
-use Rattle.asn1_syntax.specs.declared.tree.Assignment.TheVariants as assignments
 use Rattle.asn1_syntax.specs.declared.tree.Component.{Component}
 use Rattle.asn1_syntax.specs.declared.tree.ListHead.{ListHead}
-use Rattle.asn1_syntax.specs.declared.tree.Module.{Module}
 use Rattle.asn1_syntax.specs.declared.tree.PlainType.{PlainType}
 use Rattle.asn1_syntax.specs.declared.tree.TagNotation.{TagNotation}
 use Rattle.asn1_syntax.specs.declared.tree.TypeNotation.{TypeNotation}
 use Rattle.asn1_syntax.specs.declared.tree.TypeNotation.TheVariants as trees
 
--- a notation without a tag that is written: that of a type with a word of its own, an open type, a definition, or a type of another crate
+-- a notation without a tag that is written: that of a type with a word of its own, or of an open type
 pub data IsWithoutTag (n : Notation) : Type 0 where
   boolean : n ≡ notations.Boolean → IsWithoutTag n
   null : n ≡ notations.Null → IsWithoutTag n
@@ -47,26 +52,29 @@ pub data IsWithoutTag (n : Notation) : Type 0 where
   any : n ≡ notations.Any → IsWithoutTag n
   octets_under : {number : ℕ} → n ≡ notations.OctetsUnder number → IsWithoutTag n
   elements_under : {number : ℕ} → n ≡ notations.ElementsUnder number → IsWithoutTag n
-  of_definition : {index : ℕ} → n ≡ notations.Defined index → IsWithoutTag n
-  of_crate : {index : ℕ} → n ≡ notations.Imported index → IsWithoutTag n
 
--- the type that an assignment gives a name
-abbrev pub assigned_by : Assignment → Option TypeNotation
-assigned_by (assignments.Type name t) = Some t
-assigned_by (assignments.Value name t tokens) = None
-assigned_by (assignments.ParameterizedType name parameters t) = Some t
-assigned_by (assignments.ParameterizedValue name parameters t tokens) = None
-assigned_by (assignments.Class name parameters fields) = None
-
-abbrev pub assignment_there : Option Module → ℕ → Option Assignment
-assignment_there None assignment = None
-assignment_there (Some m) assignment = slice_get m.assignments.items assignment
-
--- a type is assigned in the module at an index, by the assignment at an index there
-pub record IsAssigned (modules : List Module) (m assignment : ℕ) (t : TypeNotation) : Type 0 where
+-- the definition at an index is that of the assignment at a place: its own place is that of the name that is assigned
+pub record IsDefinedAt (c : Context) (place : AssignmentPlace) (index : ℕ) : Type 0 where
+  pub definition : Definition
   pub there : Assignment
-  pub is : assignment_there (slice_get modules m) assignment ≡ Some there
-  pub assigns : assigned_by there ≡ Some t
+  pub defined : slice_get c.definitions index ≡ Some definition
+  pub assigned : assignment_there (slice_get c.modules place.«module») place.assignment ≡ Some there
+  pub «module» : definition.place.«module» ≡ place.«module»
+  pub offset : definition.place.offset ≡ (name_of there).offset
+  pub assignment : definition.assignment ≡ place.assignment
+
+-- the definition at an index is an ENUMERATED, without tags
+pub record IsEnumeratedAt (c : Context) (index : ℕ) : Type 0 where
+  pub definition : Definition
+  pub items : Enumeration
+  pub there : slice_get c.definitions index ≡ Some definition
+  pub tags : definition.tags.items ≡ []
+  pub body : definition.body ≡ bodies.Enumerated items
+
+-- a notation is that of a type with a word of its own, or of an open type
+pub data IsOwn (c : Context) (n : Notation) : Type 0 where
+  without_tag : IsWithoutTag n → IsOwn c n
+  enumerated : {index : ℕ} → n ≡ notations.Defined index → IsEnumeratedAt c index → IsOwn c n
 
 -- a type inside itself, whose elements are as they came, under its outermost tag
 pub record IsAsItCame (n : Notation) : Type 0 where
@@ -120,11 +128,11 @@ number_of_part numbers index = number_there (slice_get numbers index)
 mutual
   -- a notation is that of a type, which the module at an index writes
   pub data IsNotation (c : Context) : ℕ → TypeNotation → Notation → Type 0 where
-    plain : {m : ℕ} {t : PlainType} {n : Notation} → IsPlain c n → IsNotation c m (trees.Plain t) n
+    plain : {m : ℕ} {t : PlainType} {n : Notation} → IsPlain c m t n → IsNotation c m (trees.Plain t) n
     under_tag : {m : ℕ} {tag : TagNotation} {inner : Box TypeNotation} {n outer : Notation} → IsNotation c m inner.value n →
         IsTaggedBy (environment_of c.modules m) c.known c.sets tag n outer → IsNotation c m (trees.Tagged tag inner) outer
-    selected : {m other : ℕ} {name : Token} {inner : Box TypeNotation} {t : TypeNotation} {n : Notation} → IsNotation c other t n →
-        IsNotation c m (trees.Selected name inner) n
+    selected : {m other : ℕ} {name : Token} {inner : Box TypeNotation} {t : TypeNotation} {n : Notation} →
+        IsAlternative c.modules c.known m inner.value name other t → IsNotation c other t n → IsNotation c m (trees.Selected name inner) n
     list : {m : ℕ} {head : ListHead} {inner : Box TypeNotation} {n outer : Notation} → IsNotation c m inner.value n →
         IsListOf head.word n outer → IsNotation c m (trees.ListOf head inner) outer
     in_place : {m index : ℕ} {word : Token} (parts : Vec (Component TypeNotation)) {definition : Definition} →
@@ -133,16 +141,23 @@ mutual
     with_constraints : {m : ℕ} {inner : Box TypeNotation} {constraints : Vec (Vec Token)} {n outer : Notation} → IsNotation c m inner.value n →
         IsConstrained n outer → IsNotation c m (trees.Constrained inner constraints) outer
 
-  -- a notation is that of a type in which no other type is. The notation of a name is without a tag that is written, or that of an assigned type
-  pub data IsPlain (c : Context) : Notation → Type 0 where
-    without_tag : {n : Notation} → IsWithoutTag n → IsPlain c n
-    of_name : {m assignment : ℕ} {t : TypeNotation} {n : Notation} → IsAssigned c.modules m assignment t → IsNotation c m t n → IsPlain c n
-    in_itself : {n : Notation} → IsInItself n → IsPlain c n
+  -- a notation is that of a type in which no other type is, in the module at an index. That of a word has no tag that is written. A name means
+  -- a type of another crate; the definition of an assigned type, or that type's notation; or a type inside itself
+  pub data IsPlain (c : Context) : ℕ → PlainType → Notation → Type 0 where
+    own : {m : ℕ} {t : PlainType} {n : Notation} → IsOwn c n → IsPlain c m t n
+    of_crate : {m index : ℕ} {t : PlainType} → Refers c.modules c.known m t.words.items (meanings.Known index) → IsPlain c m t (notations.Imported index)
+    of_definition : {m index : ℕ} {t : PlainType} {place : AssignmentPlace} →
+        Refers c.modules c.known m t.words.items (meanings.Assigned place) → IsDefinedAt c place index → IsPlain c m t (notations.Defined index)
+    of_name : {m : ℕ} {t : PlainType} {place : AssignmentPlace} {assigned : TypeNotation} {n : Notation} →
+        Refers c.modules c.known m t.words.items (meanings.Assigned place) → IsAssigned c.modules place.«module» place.assignment assigned →
+        IsNotation c place.«module» assigned n → IsPlain c m t n
+    in_itself : {m : ℕ} {t : PlainType} {n : Notation} → IsInItself n → IsPlain c m t n
 
   -- a body is that of a word and of what is in braces after it, in the module at an index
   pub data IsBody (c : Context) : ℕ → Token → List (Component TypeNotation) → Body → Type 0 where
     of_parts : {m : ℕ} {word : Token} {components : List (Component TypeNotation)} {body : Body} {written : List WrittenPart}
-        {numbers : List (Option ℕ)} {parts : List Part} → AreNumbers (environment_of c.modules m) written numbers →
+        {numbers : List (Option ℕ)} {parts : List Part} {section : Section} → AreWritten c.modules c.known m components section written →
+        AreNumbers (environment_of c.modules m) written numbers →
         AreParts c numbers written parts → HasParts word parts body → IsBody c m word components body
 
   -- parts are those that are written, each with the notation of its type and its number. 24.7: only numbers of automatic tags are there

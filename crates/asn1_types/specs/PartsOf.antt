@@ -1,5 +1,5 @@
 -- Parts of what is written in braces.
-use Rattle.std.specs.Prelude.{◌≡◌, ℕ, List, Option}
+use Rattle.std.specs.Prelude.{ℕ, List, Option}
 use Rattle.asn1_types.specs.declared.components.WrittenPart.{WrittenPart}
 use Rattle.asn1_types.specs.declared.model.Notation.{Notation}
 use Rattle.asn1_types.specs.declared.model.Part.{Part}

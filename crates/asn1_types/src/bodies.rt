@@ -11,7 +11,7 @@ ghost use Rattle.asn1_types.specs.Tagged.{IsTaggedIf};
 ghost use Rattle.asn1_types.specs.Tags.{environment_of};
 ghost use Rattle.asn1_types.specs.Trees.{both, has_tag_before};
 
-use crate::components::{WrittenPart, WrittenParts};
+use crate::components::{Section, WrittenPart, WrittenParts};
 use crate::constraints::loosening_of;
 use crate::cores::{TypeAt, is_tagged};
 use crate::defaults::default_value;
@@ -95,11 +95,11 @@ pub fn note_constraints<'a>(r: &mut Resolver<'a>, at: TypeAt<'a>) -> Result<(), 
 
 /// How many parts are before the elements that a later version may add.
 pub fn extension_of(r: &Resolver<'_>, module: usize, written: &WrittenParts<'_>) -> Option<usize> {
-    match written.markers {
-        0 if is_extensible(r, module) => Some(written.parts.len()),
-        0 => None,
-        1 => Some(written.parts.len()),
-        _ => Some(written.before_end),
+    match written.section {
+        Section::Root if is_extensible(r, module) => Some(written.parts.len()),
+        Section::Root => None,
+        Section::Additions => Some(written.parts.len()),
+        Section::SecondRoot => Some(written.before_end),
     }
 }
 

@@ -1,8 +1,8 @@
 //! The type that a name means, through names, tags and constraints.
-ghost use Rattle.std.specs.Prelude.{◌≡◌, IfSome};
-ghost use Rattle.asn1_types.specs.Definitions.{IsWithin};
-ghost use Rattle.asn1_types.specs.Notations.{IsAssigned};
-ghost use Rattle.asn1_types.specs.Trees.{has_tag_before};
+ghost use Rattle.std.specs.Prelude.{◌≡◌, IfOk, IfSome};
+ghost use Rattle.asn1_types.specs.Cores.{IsNameOf, MeansType};
+ghost use Rattle.asn1_types.specs.Names.{IsAssigned, Refers};
+ghost use Rattle.asn1_types.specs.Trees.{IsWithin, has_tag_before};
 
 use crate::builtins::builtin_of;
 use crate::model::Place;
@@ -42,7 +42,9 @@ pub fn is_tagged<'a>(notation: &'a TypeNotation<'a>) -> bool
 }
 
 /// A type without the constraints after it.
-pub fn unconstrained<'a>(notation: &'a TypeNotation<'a>) -> &'a TypeNotation<'a> {
+pub fn unconstrained<'a>(notation: &'a TypeNotation<'a>) -> &'a TypeNotation<'a>
+    ensures { IsWithin notation.now result.now }
+{
     let mut at = notation;
     while let TypeNotation::Constrained(inner, _) = at {
         at = &**inner;
@@ -64,6 +66,17 @@ pub fn untagged<'a>(notation: &'a TypeNotation<'a>) -> &'a TypeNotation<'a>
     }
 }
 
+// A type without the constraints after it, and, if `tags_too`, without the tags before it.
+fn stripped<'a>(notation: &'a TypeNotation<'a>, tags_too: bool) -> &'a TypeNotation<'a>
+    ensures { IsWithin notation.now result.now }
+{
+    if tags_too {
+        untagged(notation)
+    } else {
+        unconstrained(notation)
+    }
+}
+
 /// The first word of a type in which no other type is.
 pub fn first_word<'a>(notation: &TypeNotation<'a>) -> Option<Token<'a>> {
     match notation {
@@ -77,7 +90,9 @@ pub fn reference_meaning<'a>(
     scope: Scope<'a>,
     module: usize,
     plain: &'a PlainType<'a>,
-) -> Result<Meaning, Problem> {
+) -> Result<Meaning, Problem>
+    ensures { IfOk result (Refers scope.entry.modules.now scope.entry.known.now «module» plain.now.words.items) }
+{
     match plain.words.as_slice() {
         [name] => meaning_of(scope, module, *name),
         [from, dot, name] if is(*dot, b".") => external_meaning(scope, module, *from, *name),
@@ -111,7 +126,10 @@ fn is_reference(notation: &TypeNotation<'_>) -> bool {
 }
 
 // The type that a reference means, or `None` if it is a known type.
-fn referred<'a>(scope: Scope<'a>, at: TypeAt<'a>) -> Result<Option<TypeAt<'a>>, Problem> {
+fn referred<'a>(scope: Scope<'a>, at: TypeAt<'a>) -> Result<Option<TypeAt<'a>>, Problem>
+    ensures { IfOk result (λ found. IfSome found (λ next. IsNameOf scope.entry.modules.now scope.entry.known.now at.entry.module at.entry.notation.now
+        next.module next.notation.now)) }
+{
     let TypeNotation::Plain(plain) = at.notation else {
         return Ok(None);
     };
@@ -122,18 +140,13 @@ fn referred<'a>(scope: Scope<'a>, at: TypeAt<'a>) -> Result<Option<TypeAt<'a>>, 
 }
 
 /// The type that a type means through names and constraints, and, if `tags_too`, through tags. A known type stays a name.
-pub fn core<'a>(
-    scope: Scope<'a>,
-    start: TypeAt<'a>,
-    tags_too: bool,
-) -> Result<TypeAt<'a>, Problem> {
+pub fn core<'a>(scope: Scope<'a>, start: TypeAt<'a>, tags_too: bool) -> Result<TypeAt<'a>, Problem>
+    ensures { IfOk result (λ found. MeansType scope.entry.modules.now scope.entry.known.now start.entry.module start.entry.notation.now
+        found.module found.notation.now) }
+{
     let mut at = start;
     for _ in 0..MAX_NAMES {
-        let notation = if tags_too {
-            untagged(at.notation)
-        } else {
-            unconstrained(at.notation)
-        };
+        let notation = stripped(at.notation, tags_too);
         at = TypeAt {
             module: at.module,
             notation,

@@ -14,12 +14,16 @@
 //!   definitions that are there, so more definitions change none of it;
 //! - the body of a SEQUENCE, a SET or a CHOICE (`bodies::body_of`): it is of its word, and has all its parts in their order;
 //! - what a definition is added as (`resolver::add_definition`);
-//! - that the module of an import is the one after FROM;
+//! - what a name means (`scope::meaning_of`, 13.10 to 13.17): what is assigned in the module, or what it imports, through any number of modules;
+//! - the type that a type means through names, tags and constraints (`cores::core`);
+//! - the parts in braces (`components::written_parts`): each with its name, its type and whether it is an addition, and for COMPONENTS OF those of the
+//!   root of the SEQUENCE or SET that the type after it means (24.4);
 //! - whole types and all definitions (`resolve`): each definition is that of an assigned type or of a type inside one, with the tags before its body,
-//!   and each notation in it is that of the type that a module writes, by the rules above (`AreResolved`, `IsNotation`).
+//!   and each notation in it is that of the type that a module writes, by the rules above (`AreResolved`, `IsNotation`). A name is the definition or
+//!   the notation of the assigned type that it means, or the type of another crate; a selection is the alternative of its name (29).
 //!
-//! The last of these leaves open which assignment a name means, the notation of a word such as INTEGER beyond that it has no tag that is written, the
-//! alternative of a selection type, which parts COMPONENTS OF adds, and the items of an ENUMERATED.
+//! The last of these leaves open the notation of a word such as INTEGER, of a parameter and of a field of a class, beyond that it has no tag that is
+//! written; which words these are; a type inside itself; and the items of an ENUMERATED.
 //!
 //! Only tested are these, the numbers of written tags, and what values and constraints are resolved to.
 //!

@@ -1,7 +1,6 @@
 //! What a name means in a module (X.680, 13.10 to 13.17).
 ghost use Rattle.std.specs.Prelude.{◌≡◌, IfOk, IfSome, Some, slice_get};
-ghost use Rattle.asn1_types.specs.Notations.{assigned_by, assignment_there};
-ghost use Rattle.asn1_types.specs.Names.{IsImportedFrom, IsStep, IsStepFrom, Means, MeansFrom, assigned_index, exports, imports_name, known_index, module_index, name_of};
+ghost use Rattle.asn1_types.specs.Names.{IsImportedFrom, IsStep, IsStepFrom, Means, MeansFrom, assigned_by, assigned_index, assignment_there, exports, imports_name, known_index, module_index, name_of};
 
 use crate::model::KnownType;
 use crate::problem::{Problem, ProblemKind, problem_at};

@@ -1,9 +1,12 @@
 //! Types, of whatever depth.
-ghost use Rattle.std.specs.Prelude.{◌≡◌, IfOk, IfSome};
+ghost use Rattle.std.specs.Prelude.{◌≡◌, IfOk, IfSome, Some, slice_get, true};
 ghost use Rattle.asn1_types.specs.declared.model.Notation.TheVariants.{Defined};
+ghost use Rattle.asn1_types.specs.declared.scope.Meaning.TheVariants.{Assigned};
 ghost use Rattle.asn1_types.specs.Context.{IsUnchanged, context_of};
 ghost use Rattle.asn1_types.specs.Definitions.{Continues, IsBodyOf, is_choice};
-ghost use Rattle.asn1_types.specs.Notations.{IsAssigned, IsBody, IsNotation, IsPlain, IsWithoutTag, number_of_part};
+ghost use Rattle.asn1_types.specs.Cores.{HasAlternative, IsAlternative};
+ghost use Rattle.asn1_types.specs.Names.{IsAssigned, Refers};
+ghost use Rattle.asn1_types.specs.Notations.{IsBody, IsDefinedAt, IsEnumeratedAt, IsNotation, IsOwn, IsPlain, number_of_part};
 ghost use Rattle.asn1_types.specs.PartsOf.{ArePartsOf, IsPartOf};
 
 use crate::bodies::{body_of, extension_of, finished, layers, note_constraints, numbers_of};
@@ -14,7 +17,7 @@ use crate::cores::{
     untagged,
 };
 use crate::enumerations::enumeration;
-use crate::model::{Body, Components, Notation, Part, Place};
+use crate::model::{Body, Components, Definition, Notation, Part, Place};
 use crate::open_types::open_notation;
 use crate::plain::{at, builtin_notation, constrained, list_of, recursive, tagged};
 use crate::problem::{Problem, ProblemKind, Stop, problem_at};
@@ -87,7 +90,10 @@ pub fn notation<'a>(r: &mut Resolver<'a>, at: TypeAt<'a>, depth: usize) -> Resul
 }
 
 // A type inside another one.
-fn inside<'a>(at: TypeAt<'a>, notation: &'a TypeNotation<'a>) -> TypeAt<'a> {
+fn inside<'a>(at: TypeAt<'a>, notation: &'a TypeNotation<'a>) -> TypeAt<'a>
+    ensures module { result.module ≡ at.entry.module }
+    ensures notation { result.notation.now ≡ notation.now }
+{
     TypeAt {
         module: at.module,
         notation,
@@ -99,7 +105,10 @@ fn selected<'a>(
     r: &Resolver<'a>,
     choice: TypeAt<'a>,
     name: Token<'a>,
-) -> Result<TypeAt<'a>, Problem> {
+) -> Result<TypeAt<'a>, Problem>
+    ensures { IfOk result (λ t. IsAlternative r.now.scope.modules.now r.now.scope.known.now choice.entry.module choice.entry.notation.now name.entry
+        t.module t.notation.now) }
+{
     let found = core(r.scope, choice, true)?;
     let problem = problem_at(choice.module, name, ProblemKind::NoAlternative);
     let TypeNotation::Constructed(word, components) = found.notation else {
@@ -118,7 +127,9 @@ fn selected<'a>(
 fn named_type<'a>(
     components: &'a [Component<'a, TypeNotation<'a>>],
     name: &[u8],
-) -> Option<&'a TypeNotation<'a>> {
+) -> Option<&'a TypeNotation<'a>>
+    ensures { IfSome result (λ t. HasAlternative components.now name.now t.now) }
+{
     for component in components {
         if let TreePart::Named(token, notation, _) = &component.part
             && is(*token, name)
@@ -136,7 +147,7 @@ fn own_notation<'a>(
     plain: &'a PlainType<'a>,
 ) -> Result<Option<Notation>, Stop>
     ensures continues { Continues r.old r.new }
-    ensures without_tag { IfOk result (λ found. IfSome found IsWithoutTag) }
+    ensures own { IfOk result (λ found. IfSome found (IsOwn (context_of r.new))) }
 {
     let Some(word) = plain.words.first().copied() else {
         return Err(too_deep(at));
@@ -163,7 +174,7 @@ fn plain_notation<'a>(
     depth: usize,
 ) -> Result<Notation, Stop>
     ensures continues { Continues r.old r.new }
-    ensures notation { IfOk result (IsPlain (context_of r.new)) }
+    ensures notation { IfOk result (IsPlain (context_of r.new) at.entry.module plain.now) }
 {
     let own = own_notation(r, at, plain)?;
     if let Some(notation) = own {
@@ -171,13 +182,14 @@ fn plain_notation<'a>(
     }
     match reference_meaning(r.scope, at.module, plain)? {
         Meaning::Known(index) => Ok(Notation::Imported(index)),
-        Meaning::Assigned(place) => reference(r, at, place, depth),
+        Meaning::Assigned(place) => reference(r, at, plain, place, depth),
     }
 }
 
 // An ENUMERATED inside another type, as a definition.
 fn define_enumeration<'a>(r: &mut Resolver<'a>, at: TypeAt<'a>) -> Result<usize, Stop>
-    ensures { Continues r.old r.new }
+    ensures continues { Continues r.old r.new }
+    ensures enumerated { IfOk result (IsEnumeratedAt (context_of r.new)) }
 {
     let items = enumeration(r.alloc, r.scope, at.module, braces(at.notation))?;
     let tags = Vec::new(r.alloc);
@@ -205,27 +217,52 @@ fn type_of<'a>(r: &Resolver<'a>, user: Place, place: AssignmentPlace) -> Result<
 fn reference<'a>(
     r: &mut Resolver<'a>,
     user: TypeAt<'a>,
+    name: &'a PlainType<'a>,
     place: AssignmentPlace,
     depth: usize,
 ) -> Result<Notation, Stop>
+    requires refers { Refers r.old.scope.modules.now r.old.scope.known.now user.module name.now.words.items (Assigned place) }
     ensures continues { Continues r.old r.new }
-    ensures notation { IfOk result (IsPlain (context_of r.new)) }
+    ensures notation { IfOk result (IsPlain (context_of r.new) user.entry.module name.now) }
 {
     let assigned = type_of(r, place_of(user), place)?;
     assign(r, place, depth)?;
     match state_of(r, place) {
-        State::Defined(index) => Ok(Notation::Defined(index)),
+        State::Defined(index) if is_defined_at(r, place, index) => Ok(Notation::Defined(index)),
         State::Alias(index) => aliased(r, assigned, place, index, depth),
         State::Open => {
             let inner = core(r.scope, assigned, false)?;
             recursive(r, place_of(user), inner)
         }
-        State::Rejected | State::Unresolved => Err(Stop::Rejected(Problem {
+        _ => Err(Stop::Rejected(Problem {
             place: place_of(user),
             kind: ProblemKind::RejectedType,
             other: None,
         })),
     }
+}
+
+// The definition at an index.
+fn definition_at<'r, 'a>(r: &'r Resolver<'a>, index: usize) -> Option<&'r Definition<'a>>
+    ensures { IfSome result (λ d. slice_get r.now.definitions.items index ≡ Some d.now) }
+{
+    r.definitions.get(index)
+}
+
+// Whether the definition at an index is that of the assignment at a place.
+fn is_defined_at(r: &Resolver<'_>, place: AssignmentPlace, index: usize) -> bool
+    ensures { result ≡ true → IsDefinedAt (context_of r.now) place index }
+{
+    let Some(definition) = definition_at(r, index) else {
+        return false;
+    };
+    let Some(assignment) = assignment_at(r.scope.modules, place) else {
+        return false;
+    };
+    if definition.assignment != place.assignment || definition.place.module != place.module {
+        return false;
+    }
+    definition.place.offset == assigned_name(assignment).offset
 }
 
 // The notation of a name for a notation. The parameters in it are those of its own assignment (X.683, 8.4).

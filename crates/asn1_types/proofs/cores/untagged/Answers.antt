@@ -1,5 +1,5 @@
 use Rattle.std.proofs.Common.{◌≡◌, subst, sym}
-use Rattle.asn1_types.specs.Definitions.{IsWithin, itself, past_constraints, past_tag}
+use Rattle.asn1_types.specs.Trees.{IsWithin, itself, past_constraints, past_tag}
 use Rattle.asn1_types.proofs.cores.untagged.Goals as goal
 use Rattle.asn1_syntax.specs.declared.tree.TypeNotation.{TypeNotation}
 

@@ -1,4 +1,4 @@
-use Rattle.asn1_types.specs.Definitions.{IsWithin}
+use Rattle.asn1_types.specs.Trees.{IsWithin}
 use Rattle.asn1_types.proofs.cores.untagged.Given as goal
 
 abbrev pub invariant-loop-at : goal.invariant-loop-at

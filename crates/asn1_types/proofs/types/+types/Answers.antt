@@ -3,11 +3,13 @@ use Rattle.std.specs.Option.{IfSome}
 use Rattle.std.specs.Result.{IfOk}
 use Rattle.asn1_types.specs.declared.model.Notation.{Notation}
 use Rattle.asn1_types.specs.declared.model.Part.{Part}
+use Rattle.asn1_types.specs.declared.scope.Meaning.{Meaning}
 use Rattle.asn1_types.specs.Context.{Context, context_of}
 use Rattle.asn1_types.specs.Definitions.{constructed, enumerated}
-use Rattle.asn1_types.specs.Notations.{AreParts, IsAssigned, IsBody, IsNotation, IsWithoutTag, no_parts, of_crate, of_definition, without_tag}
+use Rattle.asn1_types.specs.Names.{IsAssigned, Refers}
+use Rattle.asn1_types.specs.Notations.{AreParts, IsBody, IsNotation, IsOwn, no_parts, of_crate, of_definition, own}
 use Rattle.asn1_types.proofs.Growing.{continues_same, continues_then, continues_unchanged}
-use Rattle.asn1_types.proofs.Steps.{as_body, as_constrained, as_in_itself, as_in_place, as_list, as_named, as_part, as_plain, as_selected, as_tagged, assigned_at, continues_inside, in_same, parts_next}
+use Rattle.asn1_types.proofs.Steps.{alternative_in, as_body, as_constrained, as_in_itself, as_in_place, as_list, as_named, as_part, as_plain, as_selected, as_tagged, assigned_at, continues_inside, in_same, parts_next, refers_in, written_in}
 use Rattle.asn1_types.proofs.types.+types.Goals as goal
 use Rattle.asn1_syntax.specs.declared.tree.Component.{Component}
 use Rattle.asn1_syntax.specs.declared.tree.TypeNotation.{TypeNotation}
@@ -27,9 +29,12 @@ notation-returns-in_ok-inner-in-Tagged-clause-notation t c =
 
 pub notation-returns-in_ok-chosen-in-Selected-clause-notation : goal.notation-returns-in_ok-chosen-in-Selected-clause-notation
 notation-returns-in_ok-chosen-in-Selected-clause-notation t c =
+    let same : c.deref-in-Selected.result.now ≡ c.in-Selected.inner.value = cc (c.deref-in-Selected.ensures) in
     as_selected (context_of c.notation-in-Selected.new.r) c.args.at.«module» c.args.at.notation.now c.in-Selected.name c.in-Selected.inner
     c.in_ok-chosen-in-Selected.chosen.«module» c.in_ok-chosen-in-Selected.chosen.notation.now c.notation-in-Selected.result c.in-Selected.is
-    c.notation-in-Selected.ensures.notation
+    (alternative_in c.args.at.«module» c.inside.result.«module» c.in_ok-chosen-in-Selected.chosen.«module» c.in-Selected.inner.value
+    c.inside.result.notation.now c.in_ok-chosen-in-Selected.chosen.notation.now c.in-Selected.name c.notation-in-Selected.ensures.continues.grows
+    c.inside.ensures.«module» (c.inside.ensures.notation ∙ same) c.in_ok-chosen-in-Selected.ensures) c.notation-in-Selected.ensures.notation
 
 pub notation-returns-in_ok-element-in-ListOf-clause-notation : goal.notation-returns-in_ok-element-in-ListOf-clause-notation
 notation-returns-in_ok-element-in-ListOf-clause-notation t c =
@@ -52,18 +57,28 @@ notation-returns-in_ok-unbounded-in-Constrained-clause-notation t c =
 
 pub plain_notation-returns-in-Some-clause-notation : goal.plain_notation-returns-in-Some-clause-notation
 plain_notation-returns-in-Some-clause-notation t c =
-    without_tag (subst (λ (found : Option Notation). IfSome found IsWithoutTag) c.in-Some.is c.in_ok-own.ensures.without_tag)
+    own (subst (λ (found : Option Notation). IfSome found (IsOwn (context_of c.own_notation.new.r))) c.in-Some.is c.in_ok-own.ensures.own)
 
 pub plain_notation-returns-in-Known-clause-notation : goal.plain_notation-returns-in-Known-clause-notation
-plain_notation-returns-in-Known-clause-notation t c = without_tag (of_crate refl)
+plain_notation-returns-in-Known-clause-notation t c =
+    of_crate (subst (λ (x : Meaning). Refers c.own_notation.new.r.scope.modules.now c.own_notation.new.r.scope.known.now c.args.at.«module»
+    c.args.plain.now.words.items x) c.in-Known.is (c.in_ok-index.ensures {u = tt}))
+
+pub plain_notation-reference-requires : goal.plain_notation-reference-requires
+plain_notation-reference-requires t c = (
+  omega (arith, c.decreases),
+  subst (λ (x : Meaning). Refers c.own_notation.new.r.scope.modules.now c.own_notation.new.r.scope.known.now
+      c.args.at.«module» c.args.plain.now.words.items x) c.in-Assigned.is (c.in_ok-index.ensures {u = tt}),
+)
 
 pub reference-returns-in-Defined-clause-notation : goal.reference-returns-in-Defined-clause-notation
-reference-returns-in-Defined-clause-notation t c = without_tag (of_definition refl)
+reference-returns-in-Defined-clause-notation t c =
+    of_definition (refers_in c.assign.ensures.grows c.requires.refers) (c.is_defined_at.ensures c.if-is_defined_at.true)
 
 pub reference-returns-in-Alias-clause-notation : goal.reference-returns-in-Alias-clause-notation
 reference-returns-in-Alias-clause-notation t c =
-    as_named (context_of c.aliased.new.r) c.in_ok-assigned.assigned.«module» c.aliased.result
-    (continues_then c.assign.ensures c.aliased.ensures.continues).grows c.in_ok-assigned.ensures.assigned c.in_ok-assigned.ensures.«module»
+    as_named (context_of c.aliased.new.r) c.args.user.«module» c.args.name.now c.args.place c.in_ok-assigned.assigned.«module» c.aliased.result
+    (continues_then c.assign.ensures c.aliased.ensures.continues).grows c.requires.refers c.in_ok-assigned.ensures.assigned c.in_ok-assigned.ensures.«module»
     c.aliased.ensures.notation
 
 pub aliased-returns-clause-continues : goal.aliased-returns-clause-continues
@@ -78,7 +93,7 @@ aliased-returns-clause-notation t c =
 
 pub reference-returns-in_ok-inner-in-Open-clause-notation : goal.reference-returns-in_ok-inner-in-Open-clause-notation
 reference-returns-in_ok-inner-in-Open-clause-notation t c =
-    as_in_itself (context_of c.recursive.new.r) c.recursive.result c.recursive.ensures.notation
+    as_in_itself (context_of c.recursive.new.r) c.args.user.«module» c.args.name.now c.recursive.result c.recursive.ensures.notation
 
 pub part-returns-clause-part : goal.part-returns-clause-part
 part-returns-clause-part t c =
@@ -87,7 +102,10 @@ part-returns-clause-part t c =
     c.in_ok-notation.ensures.notation) c.finished.ensures.finished
 
 pub body-returns-clause-body : goal.body-returns-clause-body
-body-returns-clause-body t c = as_body c.args.word c.args.components.now c.body_of.result c.in_ok-parts.ensures.parts c.body_of.ensures
+body-returns-clause-body t c =
+    as_body c.args.word c.args.components.now c.body_of.result
+    (written_in c.args.«module» c.args.components.now c.in_ok-written.written.section c.in_ok-written.written.parts.items
+    c.in_ok-parts.ensures.continues.grows c.in_ok-written.ensures) c.in_ok-parts.ensures.parts c.body_of.ensures
 
 pub define-returns-clause-notation : goal.define-returns-clause-notation
 define-returns-clause-notation t c =
