@@ -25,6 +25,8 @@ IMPORTS = re.compile(r"\bIMPORTS\b(.*?);", re.DOTALL)
 FROM = re.compile(r"\bFROM\s+([A-Z][\w-]*)")
 # What is assigned: a type, or the type of a value.
 ASSIGNED = re.compile(r"([A-Z][\w-]*)\s*(?:\{[^{}]*\}\s*)?::=")
+# The options of Wireshark's compiler for a folder. `-b` is for BER, and PER goes without.
+FLAGS = re.compile(r"A2W_FLAGS\b([^)]*)\)")
 LISTED = re.compile(r"^(?P<name>[\w-]+).*?: (?:exact|accepts more|rejects additions)\b.*$", re.MULTILINE)
 
 
@@ -134,14 +136,22 @@ def count_folder(program, counts, files, homes):
 
 
 def count_package(program, package):
-    """What is said of the modules below a folder. Standard error has the counts so far, after each folder with modules."""
-    counts = Counts()
+    """What is said of the modules below a folder, by their encoding. Standard error has the counts so far, after each folder with modules."""
+    found = defaultdict(Counts)
     files = sorted(it for it in package.rglob("*") if is_module_file(it))
     homes = homes_of(files)
     for folder in sorted({it.parent for it in files}):
+        counts = found[encoding_of(folder)]
         count_folder(program, counts, [it for it in files if it.parent == folder], homes)
         print(f"{folder}: {counts}", file=sys.stderr, flush=True)
-    return counts
+    return found
+
+
+def encoding_of(folder):
+    """The encoding that Wireshark's build reads the folder's modules for, or none where the package doesn't say."""
+    build = folder / "CMakeLists.txt"
+    flags = FLAGS.search(build.read_text()) if build.exists() else None
+    return flags and ("BER" if "-b" in flags[1].split() else "PER")
 
 
 def is_module_file(path):
@@ -152,13 +162,15 @@ def main(program, folder):
     packages = sorted(it for it in Path(folder).iterdir() if it.is_dir())
     with ThreadPoolExecutor(2) as pool:
         found = list(pool.map(lambda it: count_package(program, it), packages))
-    print("\n| Package | Files | Parsed | Types exact | Types that accept more | Others that reject additions | Rejected |\n|---|---|---|---|---|---|---|")
-    for package, counts in zip(packages, found):
-        print(f"| `{package.name}` | {counts.files} | {counts.parsed} | {counts.exact} | {counts.more} | {counts.closed} | {counts.rejected()} |")
-    reasons = sum((it.reasons for it in found), Counter())
-    print("\n| Why | Times |\n|---|---|")
-    for why, times in reasons.most_common():
-        print(f"| {why} | {times} |")
+    rows = [(package.name, encoding, it) for package, counts in zip(packages, found) for encoding, it in counts.items()]
+    print("\n| Package | Encoding | Files | Parsed | Types exact | Types that accept more | Others that reject additions | Rejected |\n|---|---|---|---|---|---|---|---|")
+    for name, encoding, it in rows:
+        print(f"| `{name}` | {encoding or ''} | {it.files} | {it.parsed} | {it.exact} | {it.more} | {it.closed} | {it.rejected()} |")
+    for title, is_in in [("all", lambda it: True), ("all but PER", lambda it: it != "PER")]:
+        reasons = sum((it.reasons for _, encoding, it in rows if is_in(encoding)), Counter())
+        print(f"\n| Why, of {title} | Times |\n|---|---|")
+        for why, times in reasons.most_common():
+            print(f"| {why} | {times} |")
 
 
 if __name__ == "__main__":

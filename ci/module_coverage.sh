@@ -34,10 +34,10 @@ binary_of() {
     unpack "$1" "$work/$1.tar"
 }
 
-# Takes the modules out of an archive, into a folder that has the package's name.
+# Takes the modules out of an archive, and what says for which encoding Wireshark reads them, into a folder that has the package's name.
 unpack() {
     mkdir -p "$work/modules/$1"
-    tar -xf "$2" -C "$work/modules/$1" --wildcards '*.asn*' 2> /dev/null || :
+    tar -xf "$2" -C "$work/modules/$1" --wildcards '*.asn*' '*/asn1/*/CMakeLists.txt' 2> /dev/null || :
 }
 
 mkdir -p "$folder/lists/partial" "$folder/cache/archives/partial"
