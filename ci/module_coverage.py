@@ -1,7 +1,8 @@
-"""What ci/module_coverage.sh runs: `asn1compile --list` over the module files of packages, and two tables of what it said.
+"""What ci/module_coverage.sh runs: `asn1compile --list` over the module files of packages, and three tables of what it said.
 
-The files of a folder are resolved together, but for files that aren't modules of ASN.1. Beside them are the files of the same package whose modules
-they import from, or these in turn: those of a module whose name no other file of the package has. Only types of the folder's own files are counted.
+The files of a folder are resolved together, but for files that aren't modules of ASN.1. Beside them are the files whose modules they import from, or
+these in turn. Where several files have a module of that name, it is one of the same package before others, then one that is read for the same encoding,
+then the first. Only types of the folder's own files are counted.
 """
 
 import re
@@ -16,7 +17,7 @@ from pathlib import Path
 ENDINGS = (".asn", ".asn1")
 SECONDS = 600
 # A line of standard error that names a place.
-PLACE = re.compile(r"^(?P<file>.*?):\d+:\d+: (?P<why>.*)$", re.MULTILINE)
+PLACE = re.compile(r"^(?P<file>.*?):(?P<line>\d+):\d+: (?P<why>.*)$", re.MULTILINE)
 OTHER = "the other one is here"
 # A comment of X.680, 12.6.
 COMMENT = re.compile(r"/\*.*?\*/|--.*?(?:--|$)", re.DOTALL | re.MULTILINE)
@@ -27,6 +28,9 @@ FROM = re.compile(r"\bFROM\s+([A-Z][\w-]*)")
 ASSIGNED = re.compile(r"([A-Z][\w-]*)\s*(?:\{[^{}]*\}\s*)?::=")
 # The options of Wireshark's compiler for a folder. `-b` is for BER, and PER goes without.
 FLAGS = re.compile(r"A2W_FLAGS\b([^)]*)\)")
+# What is before `::=`, and what of that is a type's.
+HEAD = re.compile(r"^[ \t]*(\S[^\n]*?)?\s*::=", re.MULTILINE)
+TYPE_HEAD = re.compile(r"[A-Z][\w-]*\s*(?:\{[^{}]*\})?")
 LISTED = re.compile(r"^(?P<name>[\w-]+).*?: (?:exact|accepts more|rejects additions)\b.*$", re.MULTILINE)
 
 
@@ -40,6 +44,7 @@ class Counts:
     more: int = 0
     closed: int = 0
     reasons: Counter = field(default_factory=Counter)
+    values: Counter = field(default_factory=Counter)
 
     def rejected(self):
         return sum(self.reasons.values())
@@ -49,6 +54,19 @@ class Counts:
 def text_of(path):
     """The text of a file without comments."""
     return COMMENT.sub(" ", path.read_text(errors="replace"))
+
+
+@cache
+def heads_of(path):
+    """The line where each assignment of a file begins, and whether it assigns a type."""
+    text = COMMENT.sub(lambda it: re.sub(r"[^\n]", " ", it[0]), path.read_text(errors="replace"))
+    return [(text.count("\n", 0, it.start(1)) + 1, TYPE_HEAD.fullmatch(it[1]) is not None) for it in HEAD.finditer(text) if it[1]]
+
+
+def is_in_type(path, line):
+    """Whether a line of a file is of the assignment of a type, and not of a value."""
+    before = [is_type for begin, is_type in heads_of(path) if begin <= line]
+    return not before or before[-1]
 
 
 def names_in(pattern, files):
@@ -69,12 +87,19 @@ def homes_of(files):
     return homes
 
 
-def beside(files, homes):
-    """The files elsewhere in the package that these import from, and those that they import from in turn."""
+def nearest(homes, folder, package):
+    """The file among these, which have a module of one name, that a folder of a package imports it from."""
+    encoding = encoding_of(folder)
+    return min(homes, key=lambda it: (package not in it.parents, encoding_of(it.parent) != encoding, it))
+
+
+def beside(files, homes, package):
+    """The files elsewhere that these import from, and those that they import from in turn."""
     more = []
+    folder = files[0].parent
     wanted = imported_by(files) - names_in(MODULE, files)
     while wanted:
-        found = sorted({homes[name][0] for name in wanted if len(homes.get(name, ())) == 1} - {*files, *more})
+        found = sorted({nearest(homes[name], folder, package) for name in wanted if name in homes} - {*files, *more})
         more += found
         wanted = imported_by(found) - names_in(MODULE, [*files, *more])
     return more
@@ -118,10 +143,10 @@ def own_lines(program, said, own, others):
     return list(lines.elements())
 
 
-def count_folder(program, counts, files, homes):
+def count_folder(program, counts, files, homes, package):
     """Counts the types of the modules of a folder."""
     counts.files += len(files)
-    said, parsed = resolved(program, tuple(sorted(files + beside(files, homes))))
+    said, parsed = resolved(program, tuple(sorted(files + beside(files, homes, package))))
     own = [it for it in parsed if it in files]
     counts.parsed += len(own)
     if said is None:
@@ -131,22 +156,25 @@ def count_folder(program, counts, files, homes):
         counts.exact += ": exact" in line
         counts.more += ": accepts more" in line
         counts.closed += ": rejects additions" in line
-    names = {*map(str, own)}
-    counts.reasons.update(it["why"] for it in PLACE.finditer(said[1]) if it["why"] != OTHER and it["file"] in names)
+    paths = {str(it): it for it in own}
+    for it in PLACE.finditer(said[1]):
+        if it["why"] != OTHER and it["file"] in paths:
+            is_type = is_in_type(paths[it["file"]], int(it["line"]))
+            (counts.reasons if is_type else counts.values)[it["why"]] += 1
 
 
-def count_package(program, package):
+def count_package(program, package, homes):
     """What is said of the modules below a folder, by their encoding. Standard error has the counts so far, after each folder with modules."""
     found = defaultdict(Counts)
     files = sorted(it for it in package.rglob("*") if is_module_file(it))
-    homes = homes_of(files)
     for folder in sorted({it.parent for it in files}):
         counts = found[encoding_of(folder)]
-        count_folder(program, counts, [it for it in files if it.parent == folder], homes)
+        count_folder(program, counts, [it for it in files if it.parent == folder], homes, package)
         print(f"{folder}: {counts}", file=sys.stderr, flush=True)
     return found
 
 
+@cache
 def encoding_of(folder):
     """The encoding that Wireshark's build reads the folder's modules for, or none where the package doesn't say."""
     build = folder / "CMakeLists.txt"
@@ -160,8 +188,9 @@ def is_module_file(path):
 
 def main(program, folder):
     packages = sorted(it for it in Path(folder).iterdir() if it.is_dir())
+    homes = homes_of(sorted(it for it in Path(folder).rglob("*") if is_module_file(it)))
     with ThreadPoolExecutor(2) as pool:
-        found = list(pool.map(lambda it: count_package(program, it), packages))
+        found = list(pool.map(lambda it: count_package(program, it, homes), packages))
     rows = [(package.name, encoding, it) for package, counts in zip(packages, found) for encoding, it in counts.items()]
     print("\n| Package | Encoding | Files | Parsed | Types exact | Types that accept more | Others that reject additions | Rejected |\n|---|---|---|---|---|---|---|---|")
     for name, encoding, it in rows:

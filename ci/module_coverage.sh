@@ -1,5 +1,5 @@
 #!/bin/sh
-# How many of the modules in packages of Debian asn1compile reads, and how many of their types it takes: two tables, for docs/MODULES.md. The gate
+# How many of the modules in packages of Debian asn1compile reads, and how many of their types it takes: three tables, for docs/MODULES.md. The gate
 # doesn't run this.
 #
 #   sh ci/module_coverage.sh [FOLDER]
