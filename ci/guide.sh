@@ -171,7 +171,7 @@ is_whole docs/NOTATION.md "$@"
 rust_blocks docs/NOTATION.md $#
 is_whole docs/IMPLEMENTING.md "$examples/by_tuple.rt" "$examples/by_closure.rt"
 
-library=$(for crate in yasna yasna_base yasna_times yasna_bytes yasna_reader yasna_writer yasna_notation yasna_notation_validity; do
+library=$(for crate in yasna yasna_base yasna_times yasna_bytes yasna_reader yasna_writer yasna_notation yasna_notation_constraints; do
     find "crates/$crate/src" "crates/$crate/specs" -name '*.rt' -o -name '*.antt'
 done)
 for page in crates/yasna/CALLING.md crates/yasna_notation/CALLING.md; do

@@ -97,15 +97,13 @@ fn file_order(alloc: Global, files: &[SourceFile]) -> Result<Vec<usize>, AllocEr
 }
 
 // The crates of this repository that sources may need.
-static LIBRARIES: [&str; 8] = [
+static LIBRARIES: [&str; 6] = [
     "yasna_base",
     "yasna_bytes",
     "yasna",
     "yasna_notation",
     "yasna_notation_constraints",
-    "yasna_notation_tags",
     "yasna_notation_types",
-    "yasna_notation_validity",
 ];
 
 // Whether a file has a word.
@@ -229,7 +227,7 @@ fn root_of(
         ".\n//!\n//! Each type is a notation itself. `yasna_notation::Encoded` of it has the traits, so `decode_der` reads an `Encoded` of it.\n",
     );
     out.say(
-        "//! `is_valid` of `yasna_notation_validity` tests whether a value that was filled from input can be written.\n//!\n",
+        "//! `is_valid` of `yasna_notation_constraints` tests whether a value that was filled from input can be written.\n//!\n",
     );
     out.say("//! | Module | Holds |\n//! |---|---|\n");
     put_types(source, "//! | `", "` | `", "` |\n", &mut out);

@@ -22,7 +22,7 @@ Rattle.yasna_notation.specs.Making: alternative at_most default_part exactly fro
 Rattle.yasna_notation.specs.Making: in_explicit in_implicit in_sequence in_sequence_of in_set_of list_sized not_empty octets_sized
 Rattle.yasna_notation.specs.Making: application context optional_part part set_not_empty set_sized tag_or
 Rattle.yasna_base.specs.Identifier: universal
-Rattle.yasna_notation_tags.specs.Tags: private
+Rattle.yasna_notation_types.specs.Tags: private
 Rattle.yasna_notation.specs.Notation: represented_by
 Rattle.yasna_notation.specs.Parts: detects_false detects_number last_part_laws no_parts
 Rattle.yasna_notation.specs.Writing: alternative_written at_most_written bound_written explicit_written list_sized_written no_part_written
@@ -34,8 +34,8 @@ Rattle.yasna_notation_constraints.specs.Numbers: between same_number
 Rattle.yasna_notation_constraints.specs.OrDefault: or_default_laws or_default_writes
 Rattle.yasna_notation_constraints.specs.Sizes: bit_sizes from_on
 Rattle.yasna_notation_constraints.specs.TestedDefaults: one_list one_seen
-Rattle.yasna_notation_tags.specs.Making: explicit_application explicit_application_written explicit_private explicit_private_written
-Rattle.yasna_notation_tags.specs.Making: in_private in_universal under_private under_universal
+Rattle.yasna_notation_types.specs.Making: explicit_application explicit_application_written explicit_private explicit_private_written
+Rattle.yasna_notation_types.specs.Making: in_private in_universal under_private under_universal
 Rattle.yasna_notation_types.specs.Named: named_lawful named_written
 Rattle.yasna_notation_types.specs.OpenChoice: any_lawful open_lawful
 Rattle.yasna_notation_types.specs.Others: other_may others_laws others_within possible possible_default possible_default_begins possible_may
@@ -81,8 +81,8 @@ Rattle.yasna_notation.specs.contracts.canonical.GeneralizedTimeCanonicalNotation
 Rattle.yasna_notation.specs.contracts.any.TaggedDerValueNotation.TheImpl.Laws: lawful-law=any_law non_empty-law=any_non_empty
 Rattle.yasna_notation_types.specs.contracts.named_bits.NamedBitsNotation.TheImpl.Laws: lawful-law=named_bits_law
 Rattle.yasna_notation_types.specs.contracts.named_bits.NamedBitsNotation.TheImpl.Laws: non_empty-law=named_bits_non_empty
-Rattle.yasna_notation_tags.specs.contracts.bmp_string.BmpStringNotation.TheImpl.Laws: lawful-law=bmp_law non_empty-law=bmp_non_empty
-Rattle.yasna_notation_tags.specs.contracts.bmp_string.BmpStringCanonicalNotation.TheImpl.Laws: written-law=bmp_written
+Rattle.yasna_notation_types.specs.contracts.bmp_string.BmpStringNotation.TheImpl.Laws: lawful-law=bmp_law non_empty-law=bmp_non_empty
+Rattle.yasna_notation_types.specs.contracts.bmp_string.BmpStringCanonicalNotation.TheImpl.Laws: written-law=bmp_written
 ";
 
 /// The names in code.
@@ -93,11 +93,10 @@ yasna_notation::Either: First Second
 yasna_notation: Alternatives Application AtMost BigInteger BitString Bounded CanonicalAlternatives CanonicalNotation CanonicalParts Choice Context Default DefaultValue Either
 yasna_notation: Enumerated Exactly Explicit False FromTo Ia5String Implicit Last Message NotEmpty Notation NumericString Optional
 yasna_notation: PartsBy>Parts PartsBy PrintableString Represents Sequence SequenceOf SetOf VisibleString read_as
-yasna_notation_constraints: Identifier=TestedIdentifier IdentifierValue IntegerFrom IntegerFromTo IntegerUpTo Natural Octets=TestedOctets
-yasna_notation_constraints: OctetsValue OrDefault Signed SizeFrom SizeFromTo SizeIs Text=TestedText TextValue True Unset
-yasna_notation_tags: BmpString Private Universal explicit_fields_len implicit_fields_len prepend_explicit_fields prepend_implicit_fields
-yasna_notation_tags: write_explicit_fields write_implicit_fields
-yasna_notation_types: Named NamedBits Numbered OpenChoice Others Possible PossibleDefault Rest Set SetPart SetParts
-yasna_notation_types: read_part
-yasna_notation_validity: Checked CheckedBy accepts_fields
+yasna_notation_constraints: Checked CheckedBy Identifier=TestedIdentifier IdentifierValue IntegerFrom IntegerFromTo IntegerUpTo Natural
+yasna_notation_constraints: Octets=TestedOctets OctetsValue OrDefault Signed SizeFrom SizeFromTo SizeIs Text=TestedText TextValue True Unset
+yasna_notation_constraints: accepts_fields
+yasna_notation_types: BmpString Named NamedBits Numbered OpenChoice Others Possible PossibleDefault Private Rest Set SetPart SetParts Universal
+yasna_notation_types: explicit_fields_len implicit_fields_len prepend_explicit_fields prepend_implicit_fields read_part write_explicit_fields
+yasna_notation_types: write_implicit_fields
 ";

@@ -17,7 +17,7 @@ use x509::Attribute;
 use yasna::tags::TAG_SET;
 use yasna::{ASN1Result, BERMode, BERReader, DERWriter, PrependBuffer, Tag};
 use yasna_notation::{Bounded, Message, NotEmpty, Notation, Represents, SetOf, read_as};
-use yasna_notation_validity::Checked;
+use yasna_notation_constraints::Checked;
 
 type Set = Bounded<SetOf<Attribute>, NotEmpty>;
 

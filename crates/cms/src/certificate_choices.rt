@@ -34,7 +34,7 @@ use yasna_notation::{
     Alternatives, Choice, Context, Either, Implicit, Message, Notation, Represents, SequenceOf,
     read_as,
 };
-use yasna_notation_validity::Checked;
+use yasna_notation_constraints::Checked;
 
 type Extended = Implicit<Context<0>, SequenceOf<TaggedDerValue>>;
 

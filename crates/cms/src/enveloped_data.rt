@@ -34,7 +34,7 @@ use yasna_notation::{
     AtMost, Bounded, Context, Implicit, Message, NotEmpty, Notation, Optional, Represents,
     Sequence, SequenceOf, SetOf, read_as,
 };
-use yasna_notation_validity::{Checked, accepts_fields};
+use yasna_notation_constraints::{Checked, accepts_fields};
 
 type Version = Bounded<u64, AtMost<5>>;
 

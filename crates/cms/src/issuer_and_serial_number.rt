@@ -19,7 +19,7 @@ use x509::Name;
 use yasna::tags::TAG_SEQUENCE;
 use yasna::{ASN1Result, BERMode, BERReader, DERWriter, PrependBuffer, Tag};
 use yasna_notation::{BigInteger, Message, Notation, Represents, Sequence, read_as};
-use yasna_notation_validity::{Checked, accepts_fields};
+use yasna_notation_constraints::{Checked, accepts_fields};
 
 type Parts = (Name, (BigInteger, ()));
 

@@ -12,7 +12,7 @@
 //! }
 //! ```
 //!
-//! `is_valid` of `yasna_notation_validity` tests whether a value that was filled from input can be written.
+//! `is_valid` of `yasna_notation_constraints` tests whether a value that was filled from input can be written.
 //!
 //! A `TaggedDerValue` that came with indefinite length is written anew by `encode_der` with the shortest length that holds its payload,
 //! and that ends by two zeros. So these bytes are an element, but no encoding of its type. `encode_cer` writes it as it came.

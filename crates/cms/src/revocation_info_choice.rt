@@ -29,7 +29,7 @@ use yasna_notation::{
     Alternatives, Choice, Context, Either, Implicit, Message, Notation, Represents, SequenceOf,
     read_as,
 };
-use yasna_notation_validity::Checked;
+use yasna_notation_constraints::Checked;
 
 type OtherFormat = Implicit<Context<1>, SequenceOf<TaggedDerValue>>;
 

@@ -23,7 +23,7 @@ use yasna::{ASN1Result, BERMode, BERReader, DERWriter, PrependBuffer, Tag};
 use yasna_notation::{
     Alternatives, Choice, Context, Either, Implicit, Message, Notation, Represents, read_as,
 };
-use yasna_notation_validity::Checked;
+use yasna_notation_constraints::Checked;
 
 type KeyIdentifier = Implicit<Context<0>, Vec<u8>>;
 

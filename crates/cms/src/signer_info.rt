@@ -38,7 +38,7 @@ use yasna::{ASN1Result, BERMode, BERReader, DERWriter, PrependBuffer, Tag};
 use yasna_notation::{
     AtMost, Bounded, Context, Implicit, Message, Notation, Optional, Represents, Sequence, read_as,
 };
-use yasna_notation_validity::{Checked, accepts_fields};
+use yasna_notation_constraints::{Checked, accepts_fields};
 
 type Version = Bounded<u64, AtMost<5>>;
 

@@ -17,7 +17,7 @@ ghost use Rattle.ec_keys.specs.declared.ec_parameters.EcParameters.TheVariants.{
 use yasna::models::ObjectIdentifier;
 use yasna::{ASN1Result, BERMode, BERReader, DERWriter, PrependBuffer, Tag};
 use yasna_notation::{CanonicalNotation, Choice, Message, Notation, Represents, read_as};
-use yasna_notation_validity::Checked;
+use yasna_notation_constraints::Checked;
 
 type Types = (ObjectIdentifier,);
 

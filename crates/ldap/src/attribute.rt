@@ -17,8 +17,8 @@ use yasna::models::TaggedDerValue;
 use yasna::tags::TAG_SEQUENCE;
 use yasna::{ASN1Result, BERMode, BERReader, DERWriter, PrependBuffer, Tag};
 use yasna_notation::{Bounded, Message, NotEmpty, Notation, Represents, Sequence, SetOf, read_as};
+use yasna_notation_constraints::{Checked, accepts_fields};
 use yasna_notation_types::Rest;
-use yasna_notation_validity::{Checked, accepts_fields};
 
 type Parts = (
     Vec<u8>,

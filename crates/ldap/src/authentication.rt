@@ -15,8 +15,8 @@ use yasna::models::TaggedDerValue;
 use yasna::{ASN1Result, BERMode, DERWriter, PrependBuffer, Tag};
 use yasna_notation::Either::{First, Second};
 use yasna_notation::{Context, DefinedType, Either, Implicit, Notation};
+use yasna_notation_constraints::{Checked, CheckedType};
 use yasna_notation_types::OpenChoice;
-use yasna_notation_validity::{Checked, CheckedType};
 
 type SimpleNotation = Implicit<Context<0>, Vec<u8>>;
 

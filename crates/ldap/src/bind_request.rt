@@ -29,9 +29,10 @@ use yasna_notation::{
     Application, Bounded, Choice, Context, DefinedType, FromTo, Implicit, Message, Notation,
     Represents, Sequence, read_as,
 };
-use yasna_notation_tags::{implicit_fields_len, prepend_implicit_fields, write_implicit_fields};
-use yasna_notation_types::Rest;
-use yasna_notation_validity::{Checked, accepts_fields};
+use yasna_notation_constraints::{Checked, accepts_fields};
+use yasna_notation_types::{
+    Rest, implicit_fields_len, prepend_implicit_fields, write_implicit_fields,
+};
 
 type Parts = (
     Bounded<u64, FromTo<1, 127>>,

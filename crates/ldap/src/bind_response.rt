@@ -27,9 +27,10 @@ use yasna_notation::{
     Application, Bounded, Choice, Context, Implicit, Message, NotEmpty, Notation, Represents,
     Sequence, SequenceOf, read_as,
 };
-use yasna_notation_tags::{implicit_fields_len, prepend_implicit_fields, write_implicit_fields};
-use yasna_notation_types::{Named, Others, Possible};
-use yasna_notation_validity::{Checked, accepts_fields};
+use yasna_notation_constraints::{Checked, accepts_fields};
+use yasna_notation_types::{
+    Named, Others, Possible, implicit_fields_len, prepend_implicit_fields, write_implicit_fields,
+};
 
 type Referral = Implicit<Context<3>, Bounded<SequenceOf<Vec<u8>>, NotEmpty>>;
 

@@ -25,8 +25,8 @@ use yasna::models::TaggedDerValue;
 use yasna::tags::TAG_SEQUENCE;
 use yasna::{ASN1Result, BERMode, BERReader, DERWriter, PrependBuffer, Tag};
 use yasna_notation::{Choice, False, Message, Notation, Represents, Sequence, read_as};
+use yasna_notation_constraints::{Checked, accepts_fields};
 use yasna_notation_types::{Others, Possible, PossibleDefault};
-use yasna_notation_validity::{Checked, accepts_fields};
 
 type Unknown = Others<Choice<(bool, (Vec<u8>,))>>;
 

@@ -5,7 +5,7 @@ ghost use Rattle.ldap.specs.Filters.{the_filter};
 
 use crate::filter::Filter;
 use crate::filter_item::FilterItem;
-use yasna_notation_validity::Checked;
+use yasna_notation_constraints::Checked;
 
 // Whether each of the filters can be written.
 #[cycle(filter_checking)]

@@ -12,7 +12,7 @@ use crate::filter_reading::{is_context, read_filter};
 use crate::filter_writing::write_filter;
 use yasna::{ASN1Result, BERMode, BERReader, DERWriter, PrependBuffer, Tag};
 use yasna_notation::{CanonicalNotation, Message, Notation};
-use yasna_notation_validity::Checked;
+use yasna_notation_constraints::Checked;
 
 impl Notation for Filter {
     type Value = Filter;

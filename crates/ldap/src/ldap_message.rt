@@ -32,8 +32,8 @@ use yasna_notation::{
     AtMost, Bounded, Context, Implicit, Message, Notation, Represents, Sequence, SequenceOf,
     read_as,
 };
+use yasna_notation_constraints::{Checked, accepts_fields};
 use yasna_notation_types::{Others, Possible};
-use yasna_notation_validity::{Checked, accepts_fields};
 
 type MessageId = Bounded<u64, AtMost<2147483647>>;
 

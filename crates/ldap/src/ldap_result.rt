@@ -33,8 +33,8 @@ use yasna_notation::{
     Bounded, Context, Implicit, Message, NotEmpty, Notation, Represents, Sequence, SequenceOf,
     read_as,
 };
+use yasna_notation_constraints::{Checked, accepts_fields};
 use yasna_notation_types::{Named, Others, Possible};
-use yasna_notation_validity::{Checked, accepts_fields};
 
 type Referral = Implicit<Context<3>, Bounded<SequenceOf<Vec<u8>>, NotEmpty>>;
 

@@ -1,7 +1,7 @@
 //! Messages of the Lightweight Directory Access Protocol (RFC 4511): those by which a client binds, searches and unbinds.
 //!
 //! Each type is a notation itself. `yasna_notation::Encoded` of it has the traits, so `decode_ber` reads an `Encoded<LdapMessage>`.
-//! `is_valid` of `yasna_notation_validity` tests whether a value that was filled from input can be written.
+//! `is_valid` of `yasna_notation_constraints` tests whether a value that was filled from input can be written.
 //!
 //! The protocol accepts only definite lengths of BER, OCTET STRINGs in one piece, and TRUE as 255 (RFC 4511, 5.1). `encode_der` writes
 //! them so, but `decode_ber` reads all of BER.

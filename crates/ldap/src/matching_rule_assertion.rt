@@ -31,7 +31,7 @@ use yasna_notation::{
     CanonicalNotation, Context, Default, DefaultValue, Implicit, Message, Notation, Optional,
     Represents, Sequence, read_as,
 };
-use yasna_notation_validity::{Checked, accepts_fields};
+use yasna_notation_constraints::{Checked, accepts_fields};
 
 type MatchingRule = Optional<Implicit<Context<1>, Vec<u8>>>;
 

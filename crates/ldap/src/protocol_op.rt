@@ -37,8 +37,8 @@ use yasna::models::TaggedDerValue;
 use yasna::{ASN1Result, BERMode, BERReader, DERWriter, PrependBuffer, Tag};
 use yasna_notation::Either::{First, Second};
 use yasna_notation::{Choice, Either, Message, Notation, Represents, read_as};
+use yasna_notation_constraints::Checked;
 use yasna_notation_types::OpenChoice;
-use yasna_notation_validity::Checked;
 
 type Results = (
     SearchRequest,

@@ -21,8 +21,8 @@ use yasna::models::TaggedDerValue;
 use yasna::tags::TAG_SEQUENCE;
 use yasna::{ASN1Result, BERMode, BERReader, DERWriter, PrependBuffer, Tag};
 use yasna_notation::{Message, Notation, Represents, Sequence, read_as};
+use yasna_notation_constraints::{Checked, accepts_fields};
 use yasna_notation_types::{Others, Possible};
-use yasna_notation_validity::{Checked, accepts_fields};
 
 type Parts = (Vec<u8>, Possible<Vec<u8>, Others<Vec<u8>>>);
 

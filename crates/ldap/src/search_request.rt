@@ -43,9 +43,10 @@ use yasna_notation::{
     Application, AtMost, Bounded, Implicit, Message, Notation, Represents, Sequence, SequenceOf,
     read_as,
 };
-use yasna_notation_tags::{implicit_fields_len, prepend_implicit_fields, write_implicit_fields};
-use yasna_notation_types::{Named, Rest};
-use yasna_notation_validity::{Checked, accepts_fields};
+use yasna_notation_constraints::{Checked, accepts_fields};
+use yasna_notation_types::{
+    Named, Rest, implicit_fields_len, prepend_implicit_fields, write_implicit_fields,
+};
 
 type MaxInt = Bounded<u64, AtMost<2147483647>>;
 

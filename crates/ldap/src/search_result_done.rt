@@ -13,7 +13,7 @@ ghost use Rattle.ldap.specs.contracts.ldap_result.LdapResultNotation.TheImpl.Law
 use crate::ldap_result::LdapResult;
 use yasna::{ASN1Result, BERMode, BERReader, DERWriter, PrependBuffer, Tag};
 use yasna_notation::{Application, Implicit, Message, Notation, Represents, read_as};
-use yasna_notation_validity::Checked;
+use yasna_notation_constraints::Checked;
 
 type Notated = Implicit<Application<5>, LdapResult>;
 

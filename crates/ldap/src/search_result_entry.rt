@@ -26,9 +26,10 @@ use yasna::{ASN1Result, BERMode, BERReader, DERWriter, PrependBuffer, Tag};
 use yasna_notation::{
     Application, Implicit, Message, Notation, Represents, Sequence, SequenceOf, read_as,
 };
-use yasna_notation_tags::{implicit_fields_len, prepend_implicit_fields, write_implicit_fields};
-use yasna_notation_types::Rest;
-use yasna_notation_validity::{Checked, accepts_fields};
+use yasna_notation_constraints::{Checked, accepts_fields};
+use yasna_notation_types::{
+    Rest, implicit_fields_len, prepend_implicit_fields, write_implicit_fields,
+};
 
 type Parts = (
     Vec<u8>,

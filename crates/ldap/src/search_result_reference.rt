@@ -21,7 +21,7 @@ use yasna_notation::{
     Application, Bounded, CanonicalNotation, Implicit, Message, NotEmpty, Notation, Represents,
     SequenceOf, read_as,
 };
-use yasna_notation_validity::Checked;
+use yasna_notation_constraints::Checked;
 
 type Notated = Implicit<Application<19>, Bounded<SequenceOf<Vec<u8>>, NotEmpty>>;
 

@@ -27,7 +27,7 @@ use yasna_notation::{
     Bounded, CanonicalNotation, Message, NotEmpty, Notation, Represents, Sequence, SequenceOf,
     read_as,
 };
-use yasna_notation_validity::{Checked, accepts_fields};
+use yasna_notation_constraints::{Checked, accepts_fields};
 
 type Parts = (Vec<u8>, (Bounded<SequenceOf<Substring>, NotEmpty>, ()));
 

@@ -17,7 +17,7 @@ use yasna::{ASN1Result, BERMode, BERReader, DERWriter, PrependBuffer, Tag};
 use yasna_notation::{
     Application, CanonicalNotation, Implicit, Message, Notation, Represents, read_as,
 };
-use yasna_notation_validity::Checked;
+use yasna_notation_constraints::Checked;
 
 type Notated = Implicit<Application<2>, ()>;
 

@@ -15,7 +15,7 @@ ghost use Rattle.yasna_notation.specs.contracts.canonical.ObjectIdentifierCanoni
 use yasna::models::ObjectIdentifier;
 use yasna::{ASN1Result, BERMode, BERReader, DERWriter, PrependBuffer, Tag};
 use yasna_notation::{CanonicalNotation, Message, Notation, Represents, SequenceOf, read_as};
-use yasna_notation_validity::Checked;
+use yasna_notation_constraints::Checked;
 
 type Notated = SequenceOf<ObjectIdentifier>;
 

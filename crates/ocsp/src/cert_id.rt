@@ -19,7 +19,7 @@ ghost use Rattle.x509.specs.contracts.algorithm.AlgorithmIdentifierNotation.TheI
 use x509::AlgorithmIdentifier;
 use yasna::{ASN1Result, BERMode, BERReader, DERWriter, PrependBuffer, Tag};
 use yasna_notation::{BigInteger, Message, Notation, Represents, Sequence, read_as};
-use yasna_notation_validity::{Checked, accepts_fields};
+use yasna_notation_constraints::{Checked, accepts_fields};
 
 type Parts = (AlgorithmIdentifier, (Vec<u8>, (Vec<u8>, (BigInteger, ()))));
 

@@ -27,7 +27,7 @@ use yasna_notation::{
     BigInteger, CanonicalNotation, Context, Explicit, Ia5String, Message, Notation, Optional,
     Represents, Sequence, read_as,
 };
-use yasna_notation_validity::{Checked, accepts_fields};
+use yasna_notation_constraints::{Checked, accepts_fields};
 
 type Parts = (
     Optional<Explicit<Context<0>, Ia5String>>,

@@ -12,7 +12,7 @@ ghost use Rattle.ocsp.specs.contracts.preferred_signature_algorithm.PreferredSig
 use crate::preferred_signature_algorithm::PreferredSignatureAlgorithm;
 use yasna::{ASN1Result, BERMode, BERReader, DERWriter, PrependBuffer, Tag};
 use yasna_notation::{Message, Notation, Represents, SequenceOf, read_as};
-use yasna_notation_validity::Checked;
+use yasna_notation_constraints::Checked;
 
 type Notated = SequenceOf<PreferredSignatureAlgorithm>;
 

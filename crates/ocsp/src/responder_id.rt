@@ -20,7 +20,7 @@ use x509::Name;
 use yasna::{ASN1Result, BERMode, BERReader, DERWriter, PrependBuffer, Tag};
 use yasna_notation::Either::{First, Second};
 use yasna_notation::{Choice, Context, Either, Explicit, Message, Notation, Represents, read_as};
-use yasna_notation_validity::Checked;
+use yasna_notation_constraints::Checked;
 
 type Types = (Explicit<Context<1>, Name>, (Explicit<Context<2>, Vec<u8>>,));
 

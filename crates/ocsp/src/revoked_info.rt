@@ -27,8 +27,8 @@ use yasna_notation::{
     CanonicalNotation, Context, Explicit, Message, Notation, Optional, Represents, Sequence,
     read_as,
 };
+use yasna_notation_constraints::{Checked, accepts_fields};
 use yasna_notation_types::Named;
-use yasna_notation_validity::{Checked, accepts_fields};
 
 type Parts = (
     GeneralizedTime,

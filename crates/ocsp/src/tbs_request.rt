@@ -28,8 +28,7 @@ use yasna_notation::{
     Context, Default, Explicit, Message, Notation, Optional, Represents, Sequence, SequenceOf,
     read_as,
 };
-use yasna_notation_constraints::Signed;
-use yasna_notation_validity::{Checked, accepts_fields};
+use yasna_notation_constraints::{Checked, Signed, accepts_fields};
 
 type Parts = (
     Default<Explicit<Context<0>, i64>, Signed<0>>,

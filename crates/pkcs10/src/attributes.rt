@@ -12,7 +12,7 @@ ghost use Rattle.x509.specs.contracts.attribute.AttributeNotation.TheImpl.Laws.{
 use x509::Attribute;
 use yasna::{ASN1Result, BERMode, BERReader, DERWriter, PrependBuffer, Tag};
 use yasna_notation::{Message, Notation, Represents, SetOf, read_as};
-use yasna_notation_validity::Checked;
+use yasna_notation_constraints::Checked;
 
 type Notated = SetOf<Attribute>;
 

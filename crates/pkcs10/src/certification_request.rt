@@ -19,7 +19,7 @@ use crate::certification_request_info::CertificationRequestInfo;
 use x509::AlgorithmIdentifier;
 use yasna::{ASN1Result, BERMode, BERReader, DERWriter, PrependBuffer, Tag};
 use yasna_notation::{BitString, Message, Notation, Represents, Sequence, read_as};
-use yasna_notation_validity::{Checked, accepts_fields};
+use yasna_notation_constraints::{Checked, accepts_fields};
 
 type Parts = (
     CertificationRequestInfo,

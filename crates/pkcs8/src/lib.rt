@@ -1,7 +1,7 @@
 //! Private keys (PKCS #8: RFC 5208, and RFC 5958 in place of it).
 //!
 //! Each type is a notation itself. `yasna_notation::Encoded` of it has the traits, so `decode_der` reads an `Encoded<PrivateKeyInfo>`.
-//! `is_valid` of `yasna_notation_validity` tests whether a value that was filled from input can be written.
+//! `is_valid` of `yasna_notation_constraints` tests whether a value that was filled from input can be written.
 //!
 //! What is read has the syntax of these RFCs' modules. Other rules of theirs are left to the caller:
 //!

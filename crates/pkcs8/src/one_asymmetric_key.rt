@@ -45,8 +45,8 @@ use yasna_notation::{
     AtMost, BitString, Bounded, Choice, Context, Implicit, Message, Notation, Represents, Sequence,
     SetOf, read_as,
 };
+use yasna_notation_constraints::{Checked, accepts_fields};
 use yasna_notation_types::{Others, Possible};
-use yasna_notation_validity::{Checked, accepts_fields};
 
 type Version = Bounded<u64, AtMost<1>>;
 

@@ -12,7 +12,7 @@ ghost use Rattle.pkix_implicit.specs.contracts.access_description.AccessDescript
 use crate::access_description::AccessDescription;
 use yasna::{ASN1Result, BERMode, BERReader, DERWriter, PrependBuffer, Tag};
 use yasna_notation::{Bounded, Message, NotEmpty, Notation, Represents, SequenceOf, read_as};
-use yasna_notation_validity::Checked;
+use yasna_notation_constraints::Checked;
 
 type Notated = Bounded<SequenceOf<AccessDescription>, NotEmpty>;
 

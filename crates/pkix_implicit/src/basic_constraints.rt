@@ -28,8 +28,7 @@ use yasna_notation::{
     BigInteger, Bounded, CanonicalNotation, Default, False, Message, Notation, Optional,
     Represents, Sequence, read_as,
 };
-use yasna_notation_constraints::IntegerFrom;
-use yasna_notation_validity::{Checked, accepts_fields};
+use yasna_notation_constraints::{Checked, IntegerFrom, accepts_fields};
 
 type Parts = (
     Default<bool, False>,

@@ -12,7 +12,7 @@ ghost use Rattle.pkix_implicit.specs.contracts.policy_information.PolicyInformat
 use crate::policy_information::PolicyInformation;
 use yasna::{ASN1Result, BERMode, BERReader, DERWriter, PrependBuffer, Tag};
 use yasna_notation::{Bounded, Message, NotEmpty, Notation, Represents, SequenceOf, read_as};
-use yasna_notation_validity::Checked;
+use yasna_notation_constraints::Checked;
 
 type Notated = Bounded<SequenceOf<PolicyInformation>, NotEmpty>;
 

@@ -12,7 +12,7 @@ ghost use Rattle.pkix_implicit.specs.contracts.distribution_point.DistributionPo
 use crate::distribution_point::DistributionPoint;
 use yasna::{ASN1Result, BERMode, BERReader, DERWriter, PrependBuffer, Tag};
 use yasna_notation::{Bounded, Message, NotEmpty, Notation, Represents, SequenceOf, read_as};
-use yasna_notation_validity::Checked;
+use yasna_notation_constraints::Checked;
 
 type Notated = Bounded<SequenceOf<DistributionPoint>, NotEmpty>;
 

@@ -28,15 +28,15 @@ ghost use Rattle.yasna_notation.specs.Notation.{represented_by};
 ghost use Rattle.yasna_notation.specs.Writing.{alternative_written};
 ghost use Rattle.yasna_notation.specs.declared.choices.Either.TheVariants.{First, Second};
 ghost use Rattle.yasna_notation_constraints.specs.Sizes.{from_on};
-ghost use Rattle.yasna_notation_tags.specs.Making.{in_universal, under_universal};
+ghost use Rattle.yasna_notation_types.specs.Making.{in_universal, under_universal};
 ghost use Rattle.yasna_notation.specs.contracts.strings.VecU8Notation.TheImpl.Laws.{lawful-law as octets_law, non_empty-law as octets_non_empty};
 ghost use Rattle.yasna_notation.specs.contracts.canonical.VecU8CanonicalNotation.TheImpl.Laws.{written-law as octets_written};
 ghost use Rattle.yasna_notation.specs.contracts.strings.StringNotation.TheImpl.Laws.{lawful-law as text_law, non_empty-law as text_non_empty};
 ghost use Rattle.yasna_notation.specs.contracts.canonical.StringCanonicalNotation.TheImpl.Laws.{written-law as text_written};
 ghost use Rattle.yasna_notation.specs.contracts.strings.PrintableStringNotation.TheImpl.Laws.{lawful-law as printable_law, non_empty-law as printable_non_empty};
 ghost use Rattle.yasna_notation.specs.contracts.canonical.PrintableStringCanonicalNotation.TheImpl.Laws.{written-law as printable_written};
-ghost use Rattle.yasna_notation_tags.specs.contracts.bmp_string.BmpStringNotation.TheImpl.Laws.{lawful-law as bmp_law, non_empty-law as bmp_non_empty};
-ghost use Rattle.yasna_notation_tags.specs.contracts.bmp_string.BmpStringCanonicalNotation.TheImpl.Laws.{written-law as bmp_written};
+ghost use Rattle.yasna_notation_types.specs.contracts.bmp_string.BmpStringNotation.TheImpl.Laws.{lawful-law as bmp_law, non_empty-law as bmp_non_empty};
+ghost use Rattle.yasna_notation_types.specs.contracts.bmp_string.BmpStringCanonicalNotation.TheImpl.Laws.{written-law as bmp_written};
 ghost use Rattle.std.specs.Prelude.{[]};
 ghost use Rattle.pkix_implicit.specs.declared.directory_string.DirectoryString.TheVariants.{TeletexString, PrintableString as PrintableStringVariant, UniversalString, Utf8String, BmpString as BmpStringVariant};
 
@@ -46,9 +46,8 @@ use yasna_notation::{
     Bounded, CanonicalNotation, Choice, Either, Implicit, Message, Notation, PrintableString,
     Represents, read_as,
 };
-use yasna_notation_constraints::SizeFrom;
-use yasna_notation_tags::{BmpString, Universal};
-use yasna_notation_validity::Checked;
+use yasna_notation_constraints::{Checked, SizeFrom};
+use yasna_notation_types::{BmpString, Universal};
 
 type Types = (
     Implicit<Universal<20>, Vec<u8>>,

@@ -27,8 +27,8 @@ ghost use Rattle.yasna_notation.specs.contracts.strings.Ia5StringNotation.TheImp
 ghost use Rattle.yasna_notation.specs.contracts.canonical.Ia5StringCanonicalNotation.TheImpl.Laws.{written-law as ia5_written};
 ghost use Rattle.yasna_notation.specs.contracts.strings.VisibleStringNotation.TheImpl.Laws.{lawful-law as visible_law, non_empty-law as visible_non_empty};
 ghost use Rattle.yasna_notation.specs.contracts.canonical.VisibleStringCanonicalNotation.TheImpl.Laws.{written-law as visible_written};
-ghost use Rattle.yasna_notation_tags.specs.contracts.bmp_string.BmpStringNotation.TheImpl.Laws.{lawful-law as bmp_law, non_empty-law as bmp_non_empty};
-ghost use Rattle.yasna_notation_tags.specs.contracts.bmp_string.BmpStringCanonicalNotation.TheImpl.Laws.{written-law as bmp_written};
+ghost use Rattle.yasna_notation_types.specs.contracts.bmp_string.BmpStringNotation.TheImpl.Laws.{lawful-law as bmp_law, non_empty-law as bmp_non_empty};
+ghost use Rattle.yasna_notation_types.specs.contracts.bmp_string.BmpStringCanonicalNotation.TheImpl.Laws.{written-law as bmp_written};
 ghost use Rattle.std.specs.Prelude.{[]};
 ghost use Rattle.pkix_implicit.specs.declared.display_text.DisplayText.TheVariants.{Ia5String as Ia5StringVariant, VisibleString, BmpString as BmpStringVariant, Utf8String};
 
@@ -38,9 +38,8 @@ use yasna_notation::{
     Bounded, CanonicalNotation, Choice, Either, Ia5String, Message, Notation, Represents,
     VisibleString, read_as,
 };
-use yasna_notation_constraints::SizeFromTo;
-use yasna_notation_tags::BmpString;
-use yasna_notation_validity::Checked;
+use yasna_notation_constraints::{Checked, SizeFromTo};
+use yasna_notation_types::BmpString;
 
 type Types = (
     Bounded<Ia5String, SizeFromTo<1, 200>>,

@@ -23,7 +23,7 @@ use x509::RelativeDistinguishedName;
 use yasna::{ASN1Result, BERMode, BERReader, DERWriter, PrependBuffer, Tag};
 use yasna_notation::Either::{First, Second};
 use yasna_notation::{Choice, Context, Either, Implicit, Message, Notation, Represents, read_as};
-use yasna_notation_validity::Checked;
+use yasna_notation_constraints::Checked;
 
 type Types = (
     Implicit<Context<0>, GeneralNames>,

@@ -22,7 +22,7 @@ use yasna_notation::{
     CanonicalNotation, Context, Explicit, Message, Notation, Optional, Represents, Sequence,
     read_as,
 };
-use yasna_notation_validity::{Checked, accepts_fields};
+use yasna_notation_constraints::{Checked, accepts_fields};
 
 type Parts = (
     Optional<Explicit<Context<0>, DirectoryString>>,

@@ -41,7 +41,7 @@ use yasna_notation::Either::{First, Second};
 use yasna_notation::{
     Choice, Context, Either, Explicit, Ia5String, Implicit, Message, Notation, Represents, read_as,
 };
-use yasna_notation_validity::Checked;
+use yasna_notation_constraints::Checked;
 
 type Types = (
     Implicit<Context<0>, AnotherName>,

@@ -26,8 +26,7 @@ use yasna_notation::{
     BigInteger, Bounded, Context, Default, FromTo, Implicit, Message, Notation, Optional,
     Represents, Sequence, read_as,
 };
-use yasna_notation_constraints::{IntegerFrom, Natural};
-use yasna_notation_validity::{Checked, accepts_fields};
+use yasna_notation_constraints::{Checked, IntegerFrom, Natural, accepts_fields};
 
 type Parts = (
     GeneralName,

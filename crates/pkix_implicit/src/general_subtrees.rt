@@ -12,7 +12,7 @@ ghost use Rattle.pkix_implicit.specs.contracts.general_subtree.GeneralSubtreeNot
 use crate::general_subtree::GeneralSubtree;
 use yasna::{ASN1Result, BERMode, BERReader, DERWriter, PrependBuffer, Tag};
 use yasna_notation::{Bounded, Message, NotEmpty, Notation, Represents, SequenceOf, read_as};
-use yasna_notation_validity::Checked;
+use yasna_notation_constraints::Checked;
 
 type Notated = Bounded<SequenceOf<GeneralSubtree>, NotEmpty>;
 

@@ -28,8 +28,7 @@ use yasna_notation::{
     Context, Default, Explicit, Implicit, Message, Notation, Optional, Represents, Sequence,
     read_as,
 };
-use yasna_notation_constraints::Unset;
-use yasna_notation_validity::{Checked, accepts_fields};
+use yasna_notation_constraints::{Checked, Unset, accepts_fields};
 
 type Parts = (
     Optional<Explicit<Context<0>, DistributionPointName>>,

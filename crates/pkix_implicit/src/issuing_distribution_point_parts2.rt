@@ -9,9 +9,8 @@ ghost use Rattle.yasna_notation_types.specs.contracts.named_bits.NamedBitsNotati
 use crate::issuing_distribution_point::IssuingDistributionPoint;
 use yasna::{ASN1Result, BERMode, BERReaderSeq, DERWriterSeq, PrependBuffer};
 use yasna_notation::{Context, Default, Implicit, Optional, Parts, PartsBy};
-use yasna_notation_constraints::Unset;
+use yasna_notation_constraints::{CheckedBy, Unset};
 use yasna_notation_types::NamedBits;
-use yasna_notation_validity::CheckedBy;
 
 type Each = (
     Optional<Implicit<Context<3>, NamedBits>>,

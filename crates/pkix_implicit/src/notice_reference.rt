@@ -22,7 +22,7 @@ use yasna::{ASN1Result, BERMode, BERReader, DERWriter, PrependBuffer, Tag};
 use yasna_notation::{
     BigInteger, CanonicalNotation, Message, Notation, Represents, Sequence, SequenceOf, read_as,
 };
-use yasna_notation_validity::{Checked, accepts_fields};
+use yasna_notation_constraints::{Checked, accepts_fields};
 
 type Parts = (DisplayText, (SequenceOf<BigInteger>, ()));
 

@@ -12,7 +12,7 @@ ghost use Rattle.yasna_notation.specs.contracts.any.TaggedDerValueNotation.TheIm
 use yasna::models::TaggedDerValue;
 use yasna::{ASN1Result, BERMode, BERReader, DERWriter, PrependBuffer, Tag};
 use yasna_notation::{Message, Notation, Represents, SequenceOf, read_as};
-use yasna_notation_validity::Checked;
+use yasna_notation_constraints::Checked;
 
 type Notated = SequenceOf<TaggedDerValue>;
 

@@ -19,7 +19,7 @@ use crate::policy_mappings::PolicyMappings;
 use yasna::models::ObjectIdentifier;
 use yasna::{ASN1Result, BERMode, BERReader, DERWriter, PrependBuffer, Tag};
 use yasna_notation::{CanonicalNotation, Message, Notation, Represents, Sequence, read_as};
-use yasna_notation_validity::{Checked, accepts_fields};
+use yasna_notation_constraints::{Checked, accepts_fields};
 
 type Parts = (ObjectIdentifier, (ObjectIdentifier, ()));
 

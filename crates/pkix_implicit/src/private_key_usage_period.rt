@@ -22,7 +22,7 @@ use yasna_notation::{
     CanonicalNotation, Context, Implicit, Message, Notation, Optional, Represents, Sequence,
     read_as,
 };
-use yasna_notation_validity::{Checked, accepts_fields};
+use yasna_notation_constraints::{Checked, accepts_fields};
 
 type Parts = (
     Optional<Implicit<Context<0>, GeneralizedTime>>,

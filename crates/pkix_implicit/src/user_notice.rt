@@ -23,7 +23,7 @@ use yasna::{ASN1Result, BERMode, BERReader, DERWriter, PrependBuffer, Tag};
 use yasna_notation::{
     CanonicalNotation, Message, Notation, Optional, Represents, Sequence, read_as,
 };
-use yasna_notation_validity::{Checked, accepts_fields};
+use yasna_notation_constraints::{Checked, accepts_fields};
 
 type Parts = (Optional<NoticeReference>, (Optional<DisplayText>, ()));
 

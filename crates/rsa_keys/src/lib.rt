@@ -1,7 +1,7 @@
 //! Types of the module PKCS-1.
 //!
 //! Each type is a notation itself. `yasna_notation::Encoded` of it has the traits, so `decode_der` reads an `Encoded` of it.
-//! `is_valid` of `yasna_notation_validity` tests whether a value that was filled from input can be written.
+//! `is_valid` of `yasna_notation_constraints` tests whether a value that was filled from input can be written.
 //!
 //! | Module | Holds |
 //! |---|---|

@@ -33,7 +33,7 @@ use yasna_notation::{
     AtMost, BigInteger, Bounded, CanonicalNotation, Message, Notation, Represents, Sequence,
     read_as,
 };
-use yasna_notation_validity::{Checked, accepts_fields};
+use yasna_notation_constraints::{Checked, accepts_fields};
 
 type Parts = (
     Bounded<u64, AtMost<1>>,

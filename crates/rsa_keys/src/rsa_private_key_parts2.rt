@@ -12,7 +12,7 @@ use crate::other_prime_infos::OtherPrimeInfos;
 use crate::rsa_private_key::RsaPrivateKey;
 use yasna::{ASN1Result, BERMode, BERReaderSeq, DERWriterSeq, PrependBuffer};
 use yasna_notation::{BigInteger, CanonicalParts, Optional, Parts, PartsBy};
-use yasna_notation_validity::CheckedBy;
+use yasna_notation_constraints::CheckedBy;
 
 type Each = (
     BigInteger,

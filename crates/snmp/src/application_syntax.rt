@@ -40,7 +40,7 @@ use yasna_notation::{
     Alternatives, Application, Bounded, CanonicalNotation, Choice, Either, Implicit, Message,
     Notation, Represents, Size, read_as,
 };
-use yasna_notation_validity::Checked;
+use yasna_notation_constraints::Checked;
 
 type IpAddress = Implicit<Application<0>, Bounded<Vec<u8>, Size<4>>>;
 

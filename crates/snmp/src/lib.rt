@@ -1,7 +1,7 @@
 //! Messages of the Simple Network Management Protocol, SNMPv1 (RFC 1157) and SNMPv2c (RFC 1901 and RFC 3416).
 //!
 //! Each type is a notation of its own. `yasna_notation::Encoded` of it has the traits, `DERCanonical` too: so `decode_ber` reads a
-//! `Encoded<v2c::SnmpMessage>`, and `encode_der` writes it in its one encoding. `is_valid` of `yasna_notation_validity` tests whether a
+//! `Encoded<v2c::SnmpMessage>`, and `encode_der` writes it in its one encoding. `is_valid` of `yasna_notation_constraints` tests whether a
 //! value that was filled from input can be written.
 //!
 //! Each version has types of its own, as its RFC has. Those of messages and of variables differ only by a number and a type, but take no

@@ -28,7 +28,7 @@ use yasna_notation::{
     Alternatives, Bounded, CanonicalNotation, Choice, Either, Message, Notation, Represents,
     SizeAtMost, read_as,
 };
-use yasna_notation_validity::Checked;
+use yasna_notation_constraints::Checked;
 
 type StringNotation = Bounded<Vec<u8>, SizeAtMost<65535>>;
 

@@ -7,7 +7,7 @@ use std::alloc::Global;
 use x509::{Certificate, Extensions, Name, RelativeDistinguishedName};
 use yasna::{ASN1Result, decode_der, encode_der};
 use yasna_notation::{Encoded, Message};
-use yasna_notation_validity::{Checked, IsValid};
+use yasna_notation_constraints::{Checked, IsValid};
 
 // A certificate of v3 with an extension, made by hand.
 const CERTIFICATE: &str =

@@ -8,7 +8,7 @@ use yasna::{
     decode_cer, decode_der, encode_cer, encode_der, one_der_encoding, one_encoding,
 };
 use yasna_notation::{Encoded, Message};
-use yasna_notation_validity::{Checked, IsValid};
+use yasna_notation_constraints::{Checked, IsValid};
 
 /// What is so of a row's bytes.
 #[derive(Clone, Copy)]

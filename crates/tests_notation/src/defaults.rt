@@ -9,7 +9,7 @@ use crate::examples::pss_params::PssParams;
 use std::alloc::Global;
 use yasna::{ASN1Result, decode_ber, decode_der, encode_der};
 use yasna_notation::Encoded;
-use yasna_notation_validity::IsValid;
+use yasna_notation_constraints::IsValid;
 
 /// The type of a row.
 #[derive(Clone, Copy)]

@@ -1,4 +1,4 @@
-//! Tests of the crates of notations, `yasna_notation_types`, `yasna_notation_tags`, `yasna_notation_validity` and `yasna_notation_constraints`.
+//! Tests of the crates of notations, `yasna_notation_constraints` and `yasna_notation_types`.
 //!
 //! They are a crate of their own, since a crate with tests is proved twice. Each has ample memory.
 //!

@@ -1,4 +1,4 @@
-//! What the examples of `yasna_notation_tags` read and write. The ticket, the name, and the two badges are those of `openssl asn1parse -genconf`; the
+//! What the examples of `yasna_notation_types` read and write. The ticket, the name, and the two badges are those of `openssl asn1parse -genconf`; the
 //! rows that are rejected are these with some octets changed, and the holder in segments is written by hand.
 
 use crate::checks::{Claim, Kind, Row, finds_none, first_failing, holds, holds_in_both};

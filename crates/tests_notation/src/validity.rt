@@ -8,7 +8,7 @@ use yasna_notation::{
     FromTo, Ia5String, Last, NotEmpty, Number, NumericString, Optional, PrintableString, Sequence,
     SequenceOf, SetOf, Size, VisibleString,
 };
-use yasna_notation_validity::Checked;
+use yasna_notation_constraints::Checked;
 
 type Count = Bounded<u64, AtMost<7>>;
 

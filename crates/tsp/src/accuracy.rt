@@ -24,7 +24,7 @@ use yasna_notation::{
     BigInteger, Bounded, CanonicalNotation, Context, FromTo, Implicit, Message, Notation, Optional,
     Represents, Sequence, read_as,
 };
-use yasna_notation_validity::{Checked, accepts_fields};
+use yasna_notation_constraints::{Checked, accepts_fields};
 
 type Parts = (
     Optional<BigInteger>,

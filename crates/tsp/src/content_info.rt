@@ -17,7 +17,7 @@ ghost use Rattle.yasna_notation.specs.contracts.any.TaggedDerValueNotation.TheIm
 use yasna::models::{ObjectIdentifier, TaggedDerValue};
 use yasna::{ASN1Result, BERMode, BERReader, DERWriter, PrependBuffer, Tag};
 use yasna_notation::{Context, Explicit, Message, Notation, Represents, Sequence, read_as};
-use yasna_notation_validity::{Checked, accepts_fields};
+use yasna_notation_constraints::{Checked, accepts_fields};
 
 type Parts = (ObjectIdentifier, (Explicit<Context<0>, TaggedDerValue>, ()));
 

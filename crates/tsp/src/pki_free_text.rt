@@ -16,7 +16,7 @@ use yasna::{ASN1Result, BERMode, BERReader, DERWriter, PrependBuffer, Tag};
 use yasna_notation::{
     Bounded, CanonicalNotation, Message, NotEmpty, Notation, Represents, SequenceOf, read_as,
 };
-use yasna_notation_validity::Checked;
+use yasna_notation_constraints::Checked;
 
 type Notated = Bounded<SequenceOf<String>, NotEmpty>;
 

@@ -18,8 +18,8 @@ ghost use Rattle.tsp.specs.contracts.pki_free_text.PkiFreeTextNotation.TheImpl.L
 use crate::pki_free_text::PkiFreeText;
 use yasna::{ASN1Result, BERMode, BERReader, DERWriter, PrependBuffer, Tag};
 use yasna_notation::{BigInteger, Message, Notation, Optional, Represents, Sequence, read_as};
+use yasna_notation_constraints::{Checked, accepts_fields};
 use yasna_notation_types::NamedBits;
-use yasna_notation_validity::{Checked, accepts_fields};
 
 type Parts = (
     BigInteger,

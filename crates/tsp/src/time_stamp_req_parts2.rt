@@ -9,7 +9,7 @@ use crate::time_stamp_req::TimeStampReq;
 use x509::Extensions;
 use yasna::{ASN1Result, BERMode, BERReaderSeq, DERWriterSeq, PrependBuffer};
 use yasna_notation::{Context, Implicit, Optional, Parts, PartsBy};
-use yasna_notation_validity::CheckedBy;
+use yasna_notation_constraints::CheckedBy;
 
 type Each = (Optional<Implicit<Context<0>, Extensions>>, ());
 

@@ -17,7 +17,7 @@ use crate::content_info::ContentInfo;
 use crate::pki_status_info::PkiStatusInfo;
 use yasna::{ASN1Result, BERMode, BERReader, DERWriter, PrependBuffer, Tag};
 use yasna_notation::{Message, Notation, Optional, Represents, Sequence, read_as};
-use yasna_notation_validity::{Checked, accepts_fields};
+use yasna_notation_constraints::{Checked, accepts_fields};
 
 type Parts = (PkiStatusInfo, (Optional<ContentInfo>, ()));
 

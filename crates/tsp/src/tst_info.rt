@@ -32,7 +32,7 @@ use x509::Extensions;
 use yasna::models::{GeneralizedTime, ObjectIdentifier};
 use yasna::{ASN1Result, BERMode, BERReader, DERWriter, PrependBuffer, Tag};
 use yasna_notation::{BigInteger, Message, Notation, Optional, Represents, Sequence, read_as};
-use yasna_notation_validity::{Checked, accepts_fields};
+use yasna_notation_constraints::{Checked, accepts_fields};
 
 type Parts = (
     BigInteger,

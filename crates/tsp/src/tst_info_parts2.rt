@@ -13,7 +13,7 @@ use crate::tst_info_parts3::{TstInfoParts3, TstInfoParts3Fields};
 use pkix_implicit::GeneralName;
 use yasna::{ASN1Result, BERMode, BERReaderSeq, DERWriterSeq, PrependBuffer};
 use yasna_notation::{BigInteger, Context, Default, Explicit, False, Optional, Parts, PartsBy};
-use yasna_notation_validity::CheckedBy;
+use yasna_notation_constraints::CheckedBy;
 
 type Each = (
     Default<bool, False>,

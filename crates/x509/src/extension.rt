@@ -11,7 +11,7 @@ ghost use Rattle.std.specs.Prelude.{◌≡◌, ◌↔◌, IsTrue, refl};
 use yasna::models::ObjectIdentifier;
 use yasna::{ASN1Result, BERMode, DERWriter, PrependBuffer, Tag};
 use yasna_notation::{Default, DefinedType, False, Sequence};
-use yasna_notation_validity::{CheckedType, accepts_fields};
+use yasna_notation_constraints::{CheckedType, accepts_fields};
 
 type Parts = (ObjectIdentifier, (Default<bool, False>, (Vec<u8>, ())));
 

@@ -14,8 +14,8 @@ ghost use Rattle.x509.specs.Bits.{has_bit};
 use crate::bits::has_bit;
 use yasna::{ASN1Result, BERMode, DERWriter, PrependBuffer, Tag};
 use yasna_notation::{DefinedType, Notation};
+use yasna_notation_constraints::{Checked, CheckedType};
 use yasna_notation_types::LeastBits;
-use yasna_notation_validity::{Checked, CheckedType};
 
 /// What a key may be used for: what the octets hold of an extension 2.5.29.15.
 #[derive(Drop)]

@@ -1,7 +1,7 @@
 //! Certificates and revocation lists (RFC 5280).
 //!
 //! Each type is a notation itself. `yasna_notation::Encoded` of it has the traits, so `decode_der` reads an `Encoded<Certificate>`.
-//! `is_valid` of `yasna_notation_validity` tests whether a value that was filled from input can be written.
+//! `is_valid` of `yasna_notation_constraints` tests whether a value that was filled from input can be written.
 //!
 //! What is read has the syntax of the module of RFC 5280. Other rules of that RFC are left to the caller:
 //!

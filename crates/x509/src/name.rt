@@ -16,7 +16,7 @@ use crate::relative_distinguished_name::RelativeDistinguishedName;
 use yasna::tags::TAG_SEQUENCE;
 use yasna::{ASN1Result, BERMode, BERReader, DERWriter, PrependBuffer, Tag};
 use yasna_notation::{Message, Notation, Represents, SequenceOf, read_as};
-use yasna_notation_validity::Checked;
+use yasna_notation_constraints::Checked;
 
 /// A name: its parts, from the outermost level to the innermost.
 #[derive(Drop)]

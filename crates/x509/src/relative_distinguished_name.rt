@@ -13,7 +13,7 @@ use crate::attribute_type_and_value::AttributeTypeAndValue;
 use yasna::tags::TAG_SET;
 use yasna::{ASN1Result, BERMode, BERReader, DERWriter, PrependBuffer, Tag};
 use yasna_notation::{Bounded, Message, NotEmpty, Notation, Represents, SetOf, read_as};
-use yasna_notation_validity::Checked;
+use yasna_notation_constraints::Checked;
 
 type Set = Bounded<SetOf<AttributeTypeAndValue>, NotEmpty>;
 

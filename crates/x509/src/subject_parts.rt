@@ -19,7 +19,7 @@ use crate::tbs_certificate::TbsCertificate;
 use crate::validity::Validity;
 use yasna::{ASN1Result, BERMode, BERReaderSeq, DERWriterSeq, PrependBuffer};
 use yasna_notation::{BitString, Context, Explicit, Implicit, Optional, Parts, PartsBy};
-use yasna_notation_validity::CheckedBy;
+use yasna_notation_constraints::CheckedBy;
 
 type IssuerUniqueId = Optional<Implicit<Context<1>, BitString>>;
 

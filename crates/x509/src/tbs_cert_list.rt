@@ -35,7 +35,7 @@ use yasna_notation::{
     Bounded, Context, Exactly, Explicit, Message, Notation, Optional, Represents, Sequence,
     SequenceOf, read_as,
 };
-use yasna_notation_validity::{Checked, accepts_fields};
+use yasna_notation_constraints::{Checked, accepts_fields};
 
 type Revoked = Optional<SequenceOf<RevokedCertificate>>;
 

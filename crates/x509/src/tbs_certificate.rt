@@ -43,7 +43,7 @@ use yasna_notation::{
     AtMost, BigInteger, Bounded, Context, Default, Explicit, Message, Notation, Number, Represents,
     Sequence,
 };
-use yasna_notation_validity::{Checked, accepts_fields};
+use yasna_notation_constraints::{Checked, accepts_fields};
 
 type Version = Default<Explicit<Context<0>, Bounded<u64, AtMost<2>>>, Number<0>>;
 

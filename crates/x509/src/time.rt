@@ -6,7 +6,7 @@ ghost use Rattle.x509.specs.declared.time.Time.TheVariants.{Utc, General};
 use yasna::models::{GeneralizedTime, UTCTime};
 use yasna::{ASN1Result, BERMode, DERWriter, PrependBuffer, Tag};
 use yasna_notation::{Choice, DefinedType, Either, Notation, Sequence};
-use yasna_notation_validity::{Checked, CheckedType};
+use yasna_notation_constraints::{Checked, CheckedType};
 
 /// A time.
 #[derive(Drop)]

@@ -11,7 +11,7 @@ use crate::time::Time;
 use yasna::models::{GeneralizedTime, UTCTime};
 use yasna::{ASN1Result, BERMode, BERReader, DERWriter, PrependBuffer, Tag};
 use yasna_notation::{Choice, DefinedType, Notation};
-use yasna_notation_validity::Checked;
+use yasna_notation_constraints::Checked;
 
 /// The notation of a part whose value is a `Time`.
 pub struct TimePart;

@@ -1,3 +1,4 @@
 mod Saturating
 mod ReadingDefaults
 mod TestedTexts
+mod Signs

@@ -4,3 +4,4 @@ pub mod Combined
 pub mod Defaults
 pub mod TestedDefaults
 pub mod OrDefault
+pub mod Fields

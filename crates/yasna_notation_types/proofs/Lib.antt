@@ -6,3 +6,4 @@ pub mod SetReading
 pub mod Sets
 pub mod Tails
 pub mod Possibles
+pub mod Bmp

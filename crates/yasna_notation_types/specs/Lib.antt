@@ -9,3 +9,6 @@ pub mod SetReading
 pub mod Rest
 pub mod Beginning
 pub mod Others
+pub mod Bmp
+pub mod Making
+pub mod Tags

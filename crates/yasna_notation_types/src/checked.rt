@@ -1,4 +1,4 @@
-//! Whether a value of one of these types can be written, as `yasna_notation_validity` tests it.
+//! Whether a value of one of these types can be written, as `yasna_notation_constraints` tests it.
 //!
 //! Elements as they came can always be written. A bit string without the zeros at its end can too: bits after its last octet are zeros.
 ghost use Rattle.std.specs.Prelude.{IsTrue, ◌↔◌};
@@ -21,7 +21,7 @@ use crate::rest::Rest;
 use crate::set_parts::{Set, SetParts};
 use yasna_base::models::TaggedDerValue;
 use yasna_notation::{BitString, DefaultValue, Either, Notation, SequenceOf};
-use yasna_notation_validity::{
+use yasna_notation_constraints::{
     Checked, CheckedAlternatives, CheckedBy, CheckedParts, accepts_default, accepts_optional,
 };
 

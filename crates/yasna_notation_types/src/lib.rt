@@ -1,4 +1,4 @@
-//! More notations of ASN.1's types, for `yasna_notation`: what modules have beside its constructs.
+//! More notations of ASN.1's types, for `yasna_notation`: what modules have beside its constructs, and tags of all classes.
 //!
 //! | Module | Holds |
 //! |---|---|
@@ -10,6 +10,9 @@
 //! | `others`, `possible_default`, `beginning` | these elements after OPTIONAL and DEFAULT parts, and such parts |
 //! | `set_part`, `set_choices` | types that may be a part of a SET |
 //! | `set_parts`, `set_defaults` | SET of parts |
+//! | `tag_names` | the tags of the classes UNIVERSAL and PRIVATE, as types |
+//! | `tagged_fields` | the fields of a SEQUENCE, written under a tag of its own |
+//! | `bmp_string`, `octet_strings` | BMPString; strings of which `yasna` reads no text, as octets under their tag |
 //! | `checked` | whether a value of one of these types can be written |
 //! | `statuses` | two enums, as examples of `named` |
 //!
@@ -17,10 +20,12 @@
 #![tactic(auto)]
 
 mod beginning;
+mod bmp_string;
 mod checked;
 mod least_bits;
 mod named;
 mod named_bits;
+mod octet_strings;
 mod open_choice;
 mod others;
 mod plain_bits;
@@ -31,11 +36,17 @@ mod set_defaults;
 mod set_part;
 mod set_parts;
 mod statuses;
+mod tag_names;
+mod tagged_fields;
 
 pub use beginning::Beginning;
+pub use bmp_string::BmpString;
 pub use least_bits::LeastBits;
 pub use named::{Named, Numbered};
 pub use named_bits::NamedBits;
+pub use octet_strings::{
+    GeneralString, GraphicString, ObjectDescriptor, TeletexString, UniversalString, VideotexString,
+};
 pub use open_choice::OpenChoice;
 pub use others::{Others, Possible};
 pub use plain_bits::PlainBits;
@@ -45,3 +56,8 @@ pub use set_choices::SetAlternatives;
 pub use set_part::{SetPart, read_part};
 pub use set_parts::{Set, SetParts};
 pub use statuses::{ResponseStatus, ResultCode};
+pub use tag_names::{Private, Universal};
+pub use tagged_fields::{
+    explicit_fields_len, implicit_fields_len, prepend_explicit_fields, prepend_implicit_fields,
+    write_explicit_fields, write_implicit_fields,
+};

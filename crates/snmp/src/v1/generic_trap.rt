@@ -12,7 +12,7 @@ ghost use Rattle.snmp.specs.Traps.{trap_number};
 
 use yasna::{ASN1Result, BERMode, DERWriter, PrependBuffer, Tag};
 use yasna_notation::{DefinedType, Notation};
-use yasna_notation_validity::{Checked, CheckedType};
+use yasna_notation_constraints::{Checked, CheckedType};
 
 /// A kind of trap.
 #[derive(Clone, Copy, Debug, PartialEq, Eq)]

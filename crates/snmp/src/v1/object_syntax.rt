@@ -46,7 +46,7 @@ use yasna_notation::{
     Alternatives, Application, Bounded, CanonicalNotation, Choice, Either, Implicit, Message,
     Notation, Represents, Size, read_as,
 };
-use yasna_notation_validity::Checked;
+use yasna_notation_constraints::Checked;
 
 type NetworkAddress = Implicit<Application<0>, Bounded<Vec<u8>, Size<4>>>;
 

@@ -37,7 +37,7 @@ use yasna_notation::{
     Application, Bounded, CanonicalNotation, DefinedType, Implicit, Message, Notation, Represents,
     Sequence, SequenceOf, Size, read_as,
 };
-use yasna_notation_validity::{Checked, accepts_fields};
+use yasna_notation_constraints::{Checked, accepts_fields};
 
 type NetworkAddress = Implicit<Application<0>, Bounded<Vec<u8>, Size<4>>>;
 

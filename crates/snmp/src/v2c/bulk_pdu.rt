@@ -30,7 +30,7 @@ use yasna_notation::{
     AtMost, Bounded, CanonicalNotation, Message, Notation, Represents, Sequence, SequenceOf,
     SizeAtMost, read_as,
 };
-use yasna_notation_validity::{Checked, accepts_fields};
+use yasna_notation_constraints::{Checked, accepts_fields};
 
 type Repeaters = Bounded<u64, AtMost<2147483647>>;
 

@@ -14,7 +14,7 @@ ghost use Rattle.snmp.specs.V2cErrors.{status_number};
 
 use yasna::{ASN1Result, BERMode, DERWriter, PrependBuffer, Tag};
 use yasna_notation::{DefinedType, Notation};
-use yasna_notation_validity::{Checked, CheckedType};
+use yasna_notation_constraints::{Checked, CheckedType};
 
 /// What became of a request.
 #[derive(Clone, Copy, Debug, PartialEq, Eq)]

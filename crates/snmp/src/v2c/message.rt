@@ -28,7 +28,7 @@ use yasna::{ASN1Result, BERMode, BERReader, DERWriter, PrependBuffer, Tag};
 use yasna_notation::{
     Bounded, CanonicalNotation, Exactly, Message, Notation, Represents, Sequence, read_as,
 };
-use yasna_notation_validity::{Checked, accepts_fields};
+use yasna_notation_constraints::{Checked, accepts_fields};
 
 type Version = Bounded<u64, Exactly<1>>;
 

@@ -34,7 +34,7 @@ use yasna_notation::{
     Alternatives, CanonicalNotation, Choice, Context, Either, Implicit, Message, Notation,
     Represents, read_as,
 };
-use yasna_notation_validity::Checked;
+use yasna_notation_constraints::Checked;
 
 type GetRequestPdu = Implicit<Context<0>, Pdu>;
 

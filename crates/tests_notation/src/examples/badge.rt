@@ -11,7 +11,7 @@ ghost use Rattle.std.specs.Prelude.{◌≡◌, refl};
 
 use yasna_base::{ASN1Result, BERMode, Tag};
 use yasna_notation::{DefinedType, Implicit, Optional, Sequence};
-use yasna_notation_tags::{
+use yasna_notation_types::{
     BmpString, ObjectDescriptor, Private, TeletexString, implicit_fields_len,
     prepend_implicit_fields, write_implicit_fields,
 };

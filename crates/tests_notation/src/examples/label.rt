@@ -15,9 +15,9 @@ use yasna_notation::{
     Bounded, Context, DefinedType, Explicit, Implicit, PrintableString, Sequence,
 };
 use yasna_notation_constraints::{
-    Identifier, IdentifierValue, Octets, OctetsValue, OrDefault, SizeFromTo, Text, TextValue,
+    CheckedType, Identifier, IdentifierValue, Octets, OctetsValue, OrDefault, SizeFromTo, Text,
+    TextValue, accepts_fields,
 };
-use yasna_notation_validity::{CheckedType, accepts_fields};
 use yasna_writer::{DERWriter, PrependBuffer};
 
 /// `{ 2 999 1 }`.

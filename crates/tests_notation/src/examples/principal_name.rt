@@ -12,7 +12,7 @@ ghost use Rattle.std.specs.Prelude.{◌≡◌, refl};
 
 use yasna_base::{ASN1Result, BERMode, Tag};
 use yasna_notation::{Context, DefinedType, Explicit, Sequence, SequenceOf};
-use yasna_notation_tags::GeneralString;
+use yasna_notation_types::GeneralString;
 use yasna_writer::{DERWriter, PrependBuffer};
 
 type Parts = (

@@ -23,10 +23,9 @@ use yasna_base::tags::{TAG_NULL, TAG_SEQUENCE};
 use yasna_base::{ASN1Result, BERMode, PCBit, Tag};
 use yasna_notation::{Context, Default, DefinedType, Explicit, Last, Sequence};
 use yasna_notation_constraints::{
-    Element, ElementValue, Identifier, IdentifierValue, Natural, OrDefault, TestedDefault,
-    is_some_default,
+    CheckedType, Element, ElementValue, Identifier, IdentifierValue, Natural, OrDefault,
+    TestedDefault, accepts_fields, is_some_default,
 };
-use yasna_notation_validity::{CheckedType, accepts_fields};
 use yasna_writer::{DERWriter, PrependBuffer};
 
 /// An algorithm, with its parameters as they came (RFC 5280, 4.1.1.2).

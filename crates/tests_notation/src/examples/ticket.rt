@@ -20,7 +20,7 @@ ghost use Rattle.yasna_notation.specs.contracts.canonical.VecU8CanonicalNotation
 ghost use Rattle.yasna_notation.specs.contracts.simple.I32Notation.TheImpl.Laws.{lawful-law as int32};
 ghost use Rattle.yasna_notation.specs.contracts.simple.I64Notation.TheImpl.Laws.{lawful-law as int64};
 ghost use Rattle.yasna_notation.specs.contracts.strings.VecU8Notation.TheImpl.Laws.{lawful-law as octets};
-ghost use Rattle.yasna_notation_tags.specs.Making.{explicit_application, explicit_application_written, in_universal, under_universal};
+ghost use Rattle.yasna_notation_types.specs.Making.{explicit_application, explicit_application_written, in_universal, under_universal};
 
 use crate::examples::principal_name::PrincipalName;
 use yasna_base::{ASN1Result, BERMode, Tag};
@@ -28,7 +28,7 @@ use yasna_notation::{
     Application, CanonicalNotation, Context, DefinedType, Explicit, Message, Notation, Represents,
     Sequence, read_as,
 };
-use yasna_notation_tags::{
+use yasna_notation_types::{
     GeneralString, explicit_fields_len, prepend_explicit_fields, write_explicit_fields,
 };
 use yasna_reader::BERReader;

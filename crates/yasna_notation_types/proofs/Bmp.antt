@@ -22,7 +22,7 @@ use Rattle.yasna_notation.specs.Bounded.{Within}
 use Rattle.yasna_notation.specs.Laws.{string_begins}
 use Rattle.yasna_notation.specs.Notation.{ReadsAs}
 use Rattle.yasna_notation.proofs.OneTag.{allocating_read}
-use Rattle.yasna_notation_tags.specs.Bmp.{EncodesBmp, is_known, has_known, encodes_bmp_coding}
+use Rattle.yasna_notation_types.specs.Bmp.{EncodesBmp, is_known, has_known, encodes_bmp_coding}
 use Rattle.yasna_notation.proofs.WithinMode.{ReadingLaws, mode_within, mode_outside, mode_none}
 
 abbrev B : Option Tag → Grammar (String Global)

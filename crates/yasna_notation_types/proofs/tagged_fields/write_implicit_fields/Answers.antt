@@ -4,7 +4,7 @@ use Rattle.yasna_base.specs.Identifier.{tag_or}
 use Rattle.yasna_base.specs.Sequence.{sequence_tag}
 use Rattle.yasna_writer.specs.View.{Written, Writes}
 use Rattle.yasna_notation.proofs.Around.{under_tag}
-use Rattle.yasna_notation_tags.proofs.tagged_fields.write_implicit_fields.Goals as goal
+use Rattle.yasna_notation_types.proofs.tagged_fields.write_implicit_fields.Goals as goal
 
 pub returns : goal.returns
 returns g c =

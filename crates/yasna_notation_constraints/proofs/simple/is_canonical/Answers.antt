@@ -1,6 +1,6 @@
 use Rattle.yasna_base.proofs.Digits.{slice_bytes}
-use Rattle.yasna_notation_validity.proofs.Signs.{sign_matches}
-use Rattle.yasna_notation_validity.proofs.simple.is_canonical.Goals as goal
+use Rattle.yasna_notation_constraints.proofs.Signs.{sign_matches}
+use Rattle.yasna_notation_constraints.proofs.simple.is_canonical.Goals as goal
 
 pub returns-then-is_minimal : goal.returns-then-is_minimal
 returns-then-is_minimal c =

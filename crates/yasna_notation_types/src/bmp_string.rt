@@ -11,12 +11,12 @@ ghost use Rattle.yasna_base.proofs.Identifier.{not_end};
 ghost use Rattle.yasna_notation.specs.Bounded.{Within};
 ghost use Rattle.yasna_notation.specs.Canonical.{element_written};
 ghost use Rattle.yasna_notation.specs.Laws.{element_lawful};
-ghost use Rattle.yasna_notation_tags.specs.Bmp.{EncodesBmp, is_known, has_known, bmp_laws, bmp_begins, bmp_under, bmp_non_empty, bmp_elements};
+ghost use Rattle.yasna_notation_types.specs.Bmp.{EncodesBmp, is_known, has_known, bmp_laws, bmp_begins, bmp_under, bmp_non_empty, bmp_elements};
 
 use yasna_base::tags::TAG_BMPSTRING;
 use yasna_base::{ASN1Error, ASN1ErrorKind, ASN1Result, Tag};
 use yasna_notation::{CanonicalNotation, Notation};
-use yasna_notation_validity::Checked;
+use yasna_notation_constraints::Checked;
 use yasna_reader::BERReader;
 use yasna_writer::DERWriter;
 

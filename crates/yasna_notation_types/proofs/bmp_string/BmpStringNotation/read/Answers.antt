@@ -1,8 +1,8 @@
 use Rattle.std.proofs.Common.{◌≡◌, Err, true, false, rules, sym, subst}
 use Rattle.yasna_base.specs.declared.error.ASN1Error.{ASN1Error}
-use Rattle.yasna_notation_tags.specs.Bmp.{has_known}
-use Rattle.yasna_notation_tags.proofs.Bmp.{ReadsKnown, known_read, unknown_read, no_text_read}
-use Rattle.yasna_notation_tags.proofs.bmp_string.BmpStringNotation.read.Goals as goal
+use Rattle.yasna_notation_types.specs.Bmp.{has_known}
+use Rattle.yasna_notation_types.proofs.Bmp.{ReadsKnown, known_read, unknown_read, no_text_read}
+use Rattle.yasna_notation_types.proofs.bmp_string.BmpStringNotation.read.Goals as goal
 
 pub returns : goal.returns
 returns c =

@@ -6,7 +6,7 @@ use Rattle.yasna_base.specs.Identifier.{tag_or}
 use Rattle.yasna_base.specs.Sequence.{sequence_tag}
 use Rattle.yasna_writer.specs.Prepend.{Prepends}
 use Rattle.yasna_writer.proofs.Prepends.{element_prepended}
-use Rattle.yasna_notation_tags.proofs.tagged_fields.prepend_explicit_fields.Goals as goal
+use Rattle.yasna_notation_types.proofs.tagged_fields.prepend_explicit_fields.Goals as goal
 
 pub returns : goal.returns
 returns g c =

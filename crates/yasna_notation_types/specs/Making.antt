@@ -12,7 +12,7 @@ use Rattle.yasna_notation.specs.Canonical.{element_written, implicit_written}
 use Rattle.yasna_notation.specs.Elements.{explicit_elements}
 use Rattle.yasna_notation.specs.Laws.{application, application_not_end, element_lawful, explicit_laws, implicit_lawful}
 use Rattle.yasna_notation.specs.Notation.{IsNotation, NotationKeepsLaws, IsWrittenAs}
-use Rattle.yasna_notation_tags.specs.Tags.{private, private_not_end}
+use Rattle.yasna_notation_types.specs.Tags.{private, private_not_end}
 
 module _ {A : Type 0} {E : A → A → Type 0} {B : Option Tag → Grammar A} {encoding : Option Tag → Encoding A} where
   -- under [UNIVERSAL k] IMPLICIT

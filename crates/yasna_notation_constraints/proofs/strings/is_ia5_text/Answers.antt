@@ -1,6 +1,6 @@
 use Rattle.yasna_base.specs.Text.{InIa5}
 use Rattle.yasna_base.proofs.Texts.{class_text, ia5_below}
-use Rattle.yasna_notation_validity.proofs.strings.is_ia5_text.Goals as goal
+use Rattle.yasna_notation_constraints.proofs.strings.is_ia5_text.Goals as goal
 
 pub returns : goal.returns
 returns c =

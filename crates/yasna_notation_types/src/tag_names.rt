@@ -4,7 +4,7 @@ ghost use Rattle.std.proofs.Common.{arith, rules};
 ghost use Rattle.yasna_base.specs.declared.tag.Tag.{Tag};
 ghost use Rattle.yasna_base.specs.Identifier.{universal, end_tag};
 ghost use Rattle.yasna_base.proofs.Identifier.{not_end};
-ghost use Rattle.yasna_notation_tags.specs.Tags.{private, private_not_end};
+ghost use Rattle.yasna_notation_types.specs.Tags.{private, private_not_end};
 
 use yasna_base::tags::{
     TAG_BITSTRING, TAG_BMPSTRING, TAG_BOOLEAN, TAG_EMBEDDED_PDV, TAG_ENUM, TAG_EXT,

@@ -4,7 +4,7 @@ ghost use Rattle.yasna_base.specs.Canonical.{Always};
 ghost use Rattle.yasna_base.specs.Default.{default_can};
 ghost use Rattle.yasna_base.specs.Optional.{option_can};
 ghost use Rattle.yasna_base.specs.Sequence.{part_can};
-ghost use Rattle.yasna_notation_validity.specs.Fields.{AllowsAlike};
+ghost use Rattle.yasna_notation_constraints.specs.Fields.{AllowsAlike};
 
 use crate::checked::Checked;
 use yasna_notation::{Default, DefaultValue, Last, Optional, Parts};

@@ -1,3 +1,0 @@
-pub mod Bmp
-pub mod Making
-pub mod Tags
