@@ -39,9 +39,10 @@ module _ (c : Context) (ds : List Definition) (ss : List TagSet) (more_ds : Stay
     assignment = is.assignment;
   }
 
-  own_later : {n : Notation} → IsOwn c n → IsOwn (later_of c ds ss) n
-  own_later (notations_are.without_tag is) = notations_are.without_tag is
-  own_later (notations_are.enumerated {index = i} is at) = notations_are.enumerated is (record {
+  own_later : {t : PlainType} {n : Notation} → IsOwn c t n → IsOwn (later_of c ds ss) t n
+  own_later (notations_are.builtin first word of) = notations_are.builtin first word of
+  own_later (notations_are.left_open first word of) = notations_are.left_open first word of
+  own_later (notations_are.enumerated {index = i} first word is at) = notations_are.enumerated first word is (record {
     definition = at.definition;
     items = at.items;
     there = more_ds i at.definition at.there;
@@ -64,7 +65,7 @@ module _ (c : Context) (ds : List Definition) (ss : List TagSet) (more_ds : Stay
     plain_later (notations_are.of_crate refers) = notations_are.of_crate refers
     plain_later (notations_are.of_definition {index = i} refers is) = notations_are.of_definition refers (defined_later i is)
     plain_later (notations_are.of_name refers assigned is) = notations_are.of_name refers assigned (notation_later is)
-    plain_later (notations_are.in_itself is) = notations_are.in_itself is
+    plain_later (notations_are.in_itself refers assigned means is) = notations_are.in_itself refers assigned means is
 
     pub body_later : {m : ℕ} {word : Token} {components : List (Component TypeNotation)} {body : Body} → IsBody c m word components body →
         IsBody (later_of c ds ss) m word components body

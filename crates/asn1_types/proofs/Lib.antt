@@ -7,3 +7,5 @@ pub mod Steps
 pub mod Searches
 pub mod Meaning
 pub mod Writing
+pub mod Words
+pub mod Kept

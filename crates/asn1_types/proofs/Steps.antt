@@ -2,6 +2,7 @@
 use Rattle.std.proofs.Common.{◌≡◌, ◌∙◌, ◌∷◌, ◌++◌, ◌+◌, ◌<◌, ℕ, Bool, List, [], Option, Some, None, Result, Ok, Err, sym, subst, ap, take, get_or, length, arith}
 use Rattle.std.proofs.lemmas.List.{length-take-le, take_more}
 use Rattle.std.specs.Global.{Box, Vec}
+use Rattle.std.specs.List.{slice_get}
 use Rattle.std.specs.Option.{IfSome}
 use Rattle.std.specs.Result.{IfOk, OnErr}
 use Rattle.asn1_types.specs.declared.components.Section.{Section}
@@ -24,15 +25,16 @@ use Rattle.asn1_types.specs.declared.tags_of_types.TagSet.{TagSet}
 use Rattle.asn1_types.specs.Bounds.{DiffersInBounds, IsConstrained}
 use Rattle.asn1_types.specs.Context.{Context, Grows, IsAdded, IsUnchanged, context_of}
 use Rattle.asn1_types.specs.Definitions.{AreDefinitions, AreResolved, Continues, no_definitions}
-use Rattle.asn1_types.specs.Cores.{IsAlternative}
+use Rattle.asn1_types.specs.Cores.{IsAlternative, MeansType}
 use Rattle.asn1_types.specs.Names.{IsAssigned, Refers}
-use Rattle.asn1_types.specs.Notations.{AreParts, HasParts, IsBody, IsInItself, IsListOf, IsNotation, IsOwn, IsPlain, IsWithoutTag, is_set, list_by, number_of_part}
+use Rattle.asn1_types.specs.Notations.{AreParts, HasParts, IsAsItCame, IsBody, IsListOf, IsNotation, IsOpenType, IsOwn, IsPlain, is_set, list_by, number_of_part}
 use Rattle.asn1_types.specs.Notations as notations_are
 use Rattle.asn1_types.specs.Numbers.{AreNumbers}
 use Rattle.asn1_types.specs.Parts.{IsFinished}
 use Rattle.asn1_types.specs.PartsOf.{ArePartsOf, IsPartOf}
 use Rattle.asn1_types.specs.Tagged.{IsTaggedBy}
 use Rattle.asn1_types.specs.Tags.{environment_of}
+use Rattle.asn1_types.specs.Words.{IsNoWord}
 use Rattle.asn1_types.specs.Written.{AreWritten}
 use Rattle.asn1_types.proofs.Adding.{continues_outcome, is_in_place, is_inside}
 use Rattle.asn1_types.proofs.Growing.{grow_parts}
@@ -119,15 +121,28 @@ module _ (k : Context) (m : ℕ) (v : TypeNotation) where
       subst (λ (u : TypeNotation). IsNotation k m u outer) (sym is) (notations_are.with_constraints of made)
   as_constrained inner constraints n (Err e) is of made = tt
 
--- a type with a word of its own, or an open type
-pub as_own : (k : Context) (r : Result (Option Notation) Stop) → IfOk r (λ found. IfSome found IsWithoutTag) → IfOk r (λ found. IfSome found (IsOwn k))
-as_own k (Ok (Some n)) is = notations_are.without_tag is
-as_own k (Ok None) is = tt
-as_own k (Err e) is = tt
+-- an open type, whose first word is none that begins a type
+pub as_left_open : (k : Context) (t : PlainType) {word : Token} (r : Result (Option Notation) Stop) → slice_get t.words.items 0 ≡ Some word →
+    IsNoWord word.text.now → IfOk r (λ found. IfSome found (IsOpenType t.words.items)) → IfOk r (λ found. IfSome found (IsOwn k t))
+as_left_open k t (Ok (Some n)) first none is = notations_are.left_open first none is
+as_left_open k t (Ok None) first none is = tt
+as_left_open k t (Err e) first none is = tt
 
-pub as_in_itself : (k : Context) (m : ℕ) (t : PlainType) (r : Result Notation Stop) → IfOk r IsInItself → IfOk r (IsPlain k m t)
-as_in_itself k m t (Ok n) is = notations_are.in_itself is
-as_in_itself k m t (Err e) is = tt
+-- a type means the same, in a context with the same modules
+means_in : {k c : Context} {m n : ℕ} {t u : TypeNotation} → Grows k c → MeansType k.modules k.known m t n u → MeansType c.modules c.known m t n u
+means_in {k} {c} {m} {n} {t} {u} g is =
+    subst (λ (ms : List Module). MeansType ms c.known m t n u) (sym g.modules)
+    (subst (λ (ks : List KnownType). MeansType k.modules ks m t n u) (sym g.known) is)
+
+-- a name of a type that it is in
+pub as_in_itself : {k j : Context} (c : Context) (user : ℕ) (name : PlainType) (place : AssignmentPlace) {at other : ℕ} {t u : TypeNotation}
+    (r : Result Notation Stop) → Grows k c → Grows j c → Refers k.modules k.known user name.words.items (meanings.Assigned place) →
+    IsAssigned k.modules place.«module» place.assignment t → at ≡ place.«module» → MeansType j.modules j.known at t other u →
+    IfOk r (IsAsItCame u) → IfOk r (IsPlain c user name)
+as_in_itself {j = j} c user name place {other = other} {t = t} {u = u} (Ok n) g h refers assigned is means came =
+    notations_are.in_itself (refers_in g refers) (assigned_in g assigned)
+    (means_in h (subst (λ (x : ℕ). MeansType j.modules j.known x t other u) is means)) came
+as_in_itself c user name place (Err e) g h refers assigned is means came = tt
 
 -- the notation of an assigned type is that of its name
 pub as_name : {k c : Context} (user : ℕ) (name : PlainType) (place : AssignmentPlace) {at : ℕ} {t : TypeNotation} {n : Notation} → Grows k c →

@@ -14,3 +14,4 @@ pub mod Written
 pub mod Notations
 pub mod Definitions
 pub mod PartsOf
+pub mod Words

@@ -1,17 +1,22 @@
 -- The notations of types, and the bodies of SEQUENCEs, SETs and CHOICEs, as X.680 has them of what modules write.
 use Rattle.std.specs.Prelude.{◌≡◌, ℕ, Bool, true, false, List, Option, Some, None, [], ◌∷◌, ◌++◌, length, map, codes, slice_get}
 use Rattle.std.specs.Global.{Box, Vec}
+use Rattle.std.specs.List.{list_any}
 use Rattle.std.specs.Str.{bytes_eq}
+use Rattle.asn1_types.specs.declared.builtins.Builtin.{Builtin}
+use Rattle.asn1_types.specs.declared.builtins.Builtin.TheVariants as builtins
 use Rattle.asn1_types.specs.declared.components.WrittenPart.{WrittenPart}
 use Rattle.asn1_types.specs.declared.model.Alternative.{Alternative}
 use Rattle.asn1_types.specs.declared.model.Body.{Body}
 use Rattle.asn1_types.specs.declared.model.Body.TheVariants as bodies
 use Rattle.asn1_types.specs.declared.model.Definition.{Definition}
 use Rattle.asn1_types.specs.declared.model.IntegerBounds.{IntegerBounds}
+use Rattle.asn1_types.specs.declared.model.Loosening.{Loosening}
 use Rattle.asn1_types.specs.declared.model.Notation.{Notation}
 use Rattle.asn1_types.specs.declared.model.Notation.TheVariants as notations
 use Rattle.asn1_types.specs.declared.model.Part.{Part}
 use Rattle.asn1_types.specs.declared.model.Size.{Size}
+use Rattle.asn1_types.specs.declared.model.TagClass.{TagClass}
 use Rattle.asn1_types.specs.declared.model.TagLayer.{TagLayer}
 use Rattle.asn1_types.specs.declared.model.TagMode.TheVariants as modes
 use Rattle.asn1_types.specs.declared.model.TextKind.{TextKind}
@@ -21,12 +26,14 @@ use Rattle.asn1_types.specs.declared.scope.AssignmentPlace.{AssignmentPlace}
 use Rattle.asn1_types.specs.declared.scope.Meaning.TheVariants as meanings
 use Rattle.asn1_types.specs.Bounds.{DiffersInBounds, IsConstrained}
 use Rattle.asn1_types.specs.Context.{Context}
-use Rattle.asn1_types.specs.Cores.{IsAlternative}
-use Rattle.asn1_types.specs.Names.{IsAssigned, Refers, assignment_there, name_of}
+use Rattle.asn1_types.specs.Cores.{IsAlternative, MeansType}
+use Rattle.asn1_types.specs.Names.{IsAssigned, Refers, assignment_there, has_text, name_of}
 use Rattle.asn1_types.specs.Numbers.{AreNumbers}
 use Rattle.asn1_types.specs.Parts.{IsFinished}
 use Rattle.asn1_types.specs.Tagged.{IsTaggedBy, IsUnder}
-use Rattle.asn1_types.specs.Tags.{environment_of}
+use Rattle.asn1_types.specs.Tags.{class_written, environment_of}
+use Rattle.asn1_types.specs.Trees.{IsWithin}
+use Rattle.asn1_types.specs.Words.{IsNoWord, IsWordOf}
 use Rattle.asn1_types.specs.Written.{AreWritten}
 use Rattle.asn1_syntax.specs.declared.token.Token.{Token}
 use Rattle.asn1_syntax.specs.declared.tree.Assignment.{Assignment}
@@ -37,21 +44,33 @@ use Rattle.asn1_syntax.specs.declared.tree.TagNotation.{TagNotation}
 use Rattle.asn1_syntax.specs.declared.tree.TypeNotation.{TypeNotation}
 use Rattle.asn1_syntax.specs.declared.tree.TypeNotation.TheVariants as trees
 
--- a notation without a tag that is written: that of a type with a word of its own, or of an open type
-pub data IsWithoutTag (n : Notation) : Type 0 where
-  boolean : n ≡ notations.Boolean → IsWithoutTag n
-  null : n ≡ notations.Null → IsWithoutTag n
-  integer : {bounds : IntegerBounds} {names : Option ℕ} → n ≡ notations.Integer bounds names → IsWithoutTag n
-  object_identifier : n ≡ notations.ObjectIdentifier → IsWithoutTag n
-  octet_string : {size : Size} → n ≡ notations.OctetString size → IsWithoutTag n
-  bit_string : {size : Size} → n ≡ notations.BitString size → IsWithoutTag n
-  named_bits : {size : Size} {names : Option ℕ} → n ≡ notations.NamedBits size names → IsWithoutTag n
-  text : {kind : TextKind} {size : Size} → n ≡ notations.Text kind size → IsWithoutTag n
-  utc_time : n ≡ notations.UtcTime → IsWithoutTag n
-  generalized_time : n ≡ notations.GeneralizedTime → IsWithoutTag n
-  any : n ≡ notations.Any → IsWithoutTag n
-  octets_under : {number : ℕ} → n ≡ notations.OctetsUnder number → IsWithoutTag n
-  elements_under : {number : ℕ} → n ≡ notations.ElementsUnder number → IsWithoutTag n
+-- the notation of a type that has a word of its own and is no ENUMERATED. What is in braces after INTEGER and BIT STRING are names
+pub data IsOfBuiltin (n : Notation) (b : Builtin) : Type 0 where
+  boolean : b ≡ builtins.Boolean → n ≡ notations.Boolean → IsOfBuiltin n b
+  null : b ≡ builtins.Null → n ≡ notations.Null → IsOfBuiltin n b
+  integer : {bounds : IntegerBounds} {names : Option ℕ} → b ≡ builtins.Integer → n ≡ notations.Integer bounds names → IsOfBuiltin n b
+  object_identifier : b ≡ builtins.ObjectIdentifier → n ≡ notations.ObjectIdentifier → IsOfBuiltin n b
+  octet_string : {size : Size} → b ≡ builtins.OctetString → n ≡ notations.OctetString size → IsOfBuiltin n b
+  bit_string : {size : Size} → b ≡ builtins.BitString → n ≡ notations.BitString size → IsOfBuiltin n b
+  named_bits : {size : Size} {names : Option ℕ} → b ≡ builtins.BitString → n ≡ notations.NamedBits size names → IsOfBuiltin n b
+  text : {kind : TextKind} {size : Size} → b ≡ builtins.Text kind → n ≡ notations.Text kind size → IsOfBuiltin n b
+  utc_time : b ≡ builtins.UtcTime → n ≡ notations.UtcTime → IsOfBuiltin n b
+  generalized_time : b ≡ builtins.GeneralizedTime → n ≡ notations.GeneralizedTime → IsOfBuiltin n b
+  any : b ≡ builtins.Any → n ≡ notations.Any → IsOfBuiltin n b
+  octets_under : {tag : ℕ} {what : Loosening} → b ≡ builtins.Octets tag what → n ≡ notations.OctetsUnder tag → IsOfBuiltin n b
+  elements_under : {tag : ℕ} → b ≡ builtins.Elements tag → n ≡ notations.ElementsUnder tag → IsOfBuiltin n b
+
+-- the notation of a field of a class (X.681): the type that the class gives it, if that has one of these words, or any element
+pub data IsOfField (n : Notation) : Type 0 where
+  any_field : n ≡ notations.Any → IsOfField n
+  identifier_field : n ≡ notations.ObjectIdentifier → IsOfField n
+  integer_field : {bounds : IntegerBounds} {names : Option ℕ} → n ≡ notations.Integer bounds names → IsOfField n
+  boolean_field : n ≡ notations.Boolean → IsOfField n
+
+-- a type that is left open: any element for a parameter, which is one word (X.683), and a field of a class, which `&` is before
+pub data IsOpenType (words : List Token) (n : Notation) : Type 0 where
+  parameter : {name : Token} → words ≡ name ∷ [] → n ≡ notations.Any → IsOpenType words n
+  field : list_any (has_text (codes "&")) words ≡ true → IsOfField n → IsOpenType words n
 
 -- the definition at an index is that of the assignment at a place: its own place is that of the name that is assigned
 pub record IsDefinedAt (c : Context) (place : AssignmentPlace) (index : ℕ) : Type 0 where
@@ -71,21 +90,12 @@ pub record IsEnumeratedAt (c : Context) (index : ℕ) : Type 0 where
   pub tags : definition.tags.items ≡ []
   pub body : definition.body ≡ bodies.Enumerated items
 
--- a notation is that of a type with a word of its own, or of an open type
-pub data IsOwn (c : Context) (n : Notation) : Type 0 where
-  without_tag : IsWithoutTag n → IsOwn c n
-  enumerated : {index : ℕ} → n ≡ notations.Defined index → IsEnumeratedAt c index → IsOwn c n
-
--- a type inside itself, whose elements are as they came, under its outermost tag
-pub record IsAsItCame (n : Notation) : Type 0 where
-  pub layer : TagLayer
-  pub under : IsUnder layer (notations.ElementsUnder 16) n
-  pub mode : layer.mode ≡ modes.Implicit
-
--- a type inside itself: as it came, under its outermost tag or without one
-pub data IsInItself (n : Notation) : Type 0 where
-  by_itself : IsWithoutTag n → IsInItself n
-  under_its_tag : IsAsItCame n → IsInItself n
+-- a notation is that of a type whose first word is one of its own, or which is left open and begins with no such word
+pub data IsOwn (c : Context) (t : PlainType) (n : Notation) : Type 0 where
+  builtin : {word : Token} {b : Builtin} → slice_get t.words.items 0 ≡ Some word → IsWordOf b word.text.now → IsOfBuiltin n b → IsOwn c t n
+  enumerated : {word : Token} {index : ℕ} → slice_get t.words.items 0 ≡ Some word → IsWordOf builtins.Enumerated word.text.now →
+      n ≡ notations.Defined index → IsEnumeratedAt c index → IsOwn c t n
+  left_open : {word : Token} → slice_get t.words.items 0 ≡ Some word → IsNoWord word.text.now → IsOpenType t.words.items n → IsOwn c t n
 
 -- a SET OF or a SEQUENCE OF, of an element in a box
 abbrev pub list_by : Bool → Box Notation → Size → Notation
@@ -97,6 +107,37 @@ is_set word = bytes_eq word.text.now (codes "SET")
 
 abbrev pub is_sequence : Token → Bool
 is_sequence word = bytes_eq word.text.now (codes "SEQUENCE")
+
+-- the elements of a SET, a SET OF, a SEQUENCE or a SEQUENCE OF, as they came under its tag; any element of another type
+abbrev pub elements_by : Bool → Bool → Notation
+elements_by true sequence = notations.ElementsUnder 17
+elements_by false true = notations.ElementsUnder 16
+elements_by false false = notations.Any
+
+pub data HasElements (t : TypeNotation) (n : Notation) : Type 0 where
+  of_list : {head : ListHead} {inner : Box TypeNotation} → t ≡ trees.ListOf head inner → n ≡ elements_by (is_set head.word) true → HasElements t n
+  of_body : {word : Token} (parts : Vec (Component TypeNotation)) → t ≡ trees.Constructed word parts →
+      n ≡ elements_by (is_set word) (is_sequence word) → HasElements t n
+  of_other : ((head : ListHead) (inner : Box TypeNotation) → t ≡ trees.ListOf head inner → ⊥) →
+      ((word : Token) (parts : Vec (Component TypeNotation)) → t ≡ trees.Constructed word parts → ⊥) → n ≡ notations.Any → HasElements t n
+
+-- the elements of a type, without the tags before it and the constraints after it
+pub record IsElementsOf (t : TypeNotation) (n : Notation) : Type 0 where
+  pub inner : TypeNotation
+  pub within : IsWithin t inner
+  pub has : HasElements inner n
+
+-- elements that are kept as they came, under a tag of this class
+pub record IsUnderLayer (class : TagClass) (n : Notation) : Type 0 where
+  pub layer : TagLayer
+  pub of_class : layer.class ≡ class
+  pub mode : layer.mode ≡ modes.Implicit
+  pub under : IsUnder layer (notations.ElementsUnder 16) n
+
+-- a type whose elements are kept as they came: under the tag that is written before it, or else by what it is
+pub data IsAsItCame (t : TypeNotation) (n : Notation) : Type 0 where
+  under_its_tag : {tag : TagNotation} {inner : Box TypeNotation} → t ≡ trees.Tagged tag inner → IsUnderLayer (class_written tag.class) n → IsAsItCame t n
+  by_itself : ((tag : TagNotation) (inner : Box TypeNotation) → t ≡ trees.Tagged tag inner → ⊥) → IsElementsOf t n → IsAsItCame t n
 
 -- a SEQUENCE OF or a SET OF, of its word, with the constraint before OF
 pub record IsListOf (word : Token) (element outer : Notation) : Type 0 where
@@ -141,17 +182,19 @@ mutual
     with_constraints : {m : ℕ} {inner : Box TypeNotation} {constraints : Vec (Vec Token)} {n outer : Notation} → IsNotation c m inner.value n →
         IsConstrained n outer → IsNotation c m (trees.Constrained inner constraints) outer
 
-  -- a notation is that of a type in which no other type is, in the module at an index. That of a word has no tag that is written. A name means
-  -- a type of another crate; the definition of an assigned type, or that type's notation; or a type inside itself
+  -- a notation is that of a type in which no other type is, in the module at an index. A name means a type of another crate, the definition of an
+  -- assigned type, or that type's notation. Of a type inside itself it is what the name means, with its elements as they came
   pub data IsPlain (c : Context) : ℕ → PlainType → Notation → Type 0 where
-    own : {m : ℕ} {t : PlainType} {n : Notation} → IsOwn c n → IsPlain c m t n
+    own : {m : ℕ} {t : PlainType} {n : Notation} → IsOwn c t n → IsPlain c m t n
     of_crate : {m index : ℕ} {t : PlainType} → Refers c.modules c.known m t.words.items (meanings.Known index) → IsPlain c m t (notations.Imported index)
     of_definition : {m index : ℕ} {t : PlainType} {place : AssignmentPlace} →
         Refers c.modules c.known m t.words.items (meanings.Assigned place) → IsDefinedAt c place index → IsPlain c m t (notations.Defined index)
     of_name : {m : ℕ} {t : PlainType} {place : AssignmentPlace} {assigned : TypeNotation} {n : Notation} →
         Refers c.modules c.known m t.words.items (meanings.Assigned place) → IsAssigned c.modules place.«module» place.assignment assigned →
         IsNotation c place.«module» assigned n → IsPlain c m t n
-    in_itself : {m : ℕ} {t : PlainType} {n : Notation} → IsInItself n → IsPlain c m t n
+    in_itself : {m other : ℕ} {t : PlainType} {place : AssignmentPlace} {assigned meant : TypeNotation} {n : Notation} →
+        Refers c.modules c.known m t.words.items (meanings.Assigned place) → IsAssigned c.modules place.«module» place.assignment assigned →
+        MeansType c.modules c.known place.«module» assigned other meant → IsAsItCame meant n → IsPlain c m t n
 
   -- a body is that of a word and of what is in braces after it, in the module at an index
   pub data IsBody (c : Context) : ℕ → Token → List (Component TypeNotation) → Body → Type 0 where

@@ -1,4 +1,7 @@
 //! The types of X.680 that have words of their own.
+ghost use Rattle.std.specs.Prelude.{◌≡◌, ℕ, IfSome, MatchOption, None};
+ghost use Rattle.asn1_types.specs.declared.model.TextKind.{TextKind};
+ghost use Rattle.asn1_types.specs.Words.{IsContainedWord, IsElementsWord, IsNoKeptWord, IsNoPlainWord, IsNoWord, IsTextWord, IsUnreadWord, IsWordOf};
 
 use crate::model::{Loosening, TextKind};
 
@@ -33,52 +36,137 @@ pub enum Builtin {
     Elements(u64),
 }
 
-/// The first word of a type, and the type.
-type BuiltinRow = (&'static [u8], Builtin);
+// The string of characters that are read of which this is the word.
+fn text_kind(word: &[u8]) -> Option<TextKind>
+    ensures { MatchOption result ((k : TextKind) → IsTextWord k word.now → ⊥) (λ k. IsTextWord k word.now) }
+{
+    if word == b"UTF8String".as_slice() {
+        Some(TextKind::Utf8)
+    } else if word == b"NumericString".as_slice() {
+        Some(TextKind::Numeric)
+    } else if word == b"PrintableString".as_slice() {
+        Some(TextKind::Printable)
+    } else if word == b"IA5String".as_slice() {
+        Some(TextKind::Ia5)
+    } else if word == b"VisibleString".as_slice() {
+        Some(TextKind::Visible)
+    } else if word == b"ISO646String".as_slice() {
+        Some(TextKind::Visible)
+    } else if word == b"BMPString".as_slice() {
+        Some(TextKind::Bmp)
+    } else {
+        None
+    }
+}
 
-static BUILTINS: [BuiltinRow; 30] = [
-    (b"BOOLEAN", Builtin::Boolean),
-    (b"NULL", Builtin::Null),
-    (b"INTEGER", Builtin::Integer),
-    (b"OBJECT", Builtin::ObjectIdentifier),
-    (b"OCTET", Builtin::OctetString),
-    (b"BIT", Builtin::BitString),
-    (b"ENUMERATED", Builtin::Enumerated),
-    (b"UTF8String", Builtin::Text(TextKind::Utf8)),
-    (b"NumericString", Builtin::Text(TextKind::Numeric)),
-    (b"PrintableString", Builtin::Text(TextKind::Printable)),
-    (b"IA5String", Builtin::Text(TextKind::Ia5)),
-    (b"VisibleString", Builtin::Text(TextKind::Visible)),
-    (b"ISO646String", Builtin::Text(TextKind::Visible)),
-    (b"BMPString", Builtin::Text(TextKind::Bmp)),
-    (b"UTCTime", Builtin::UtcTime),
-    (b"GeneralizedTime", Builtin::GeneralizedTime),
-    (b"ANY", Builtin::Any),
-    (b"TeletexString", Builtin::Octets(20, Loosening::Characters)),
-    (b"T61String", Builtin::Octets(20, Loosening::Characters)),
-    (
-        b"VideotexString",
-        Builtin::Octets(21, Loosening::Characters),
-    ),
-    (b"GraphicString", Builtin::Octets(25, Loosening::Characters)),
-    (b"GeneralString", Builtin::Octets(27, Loosening::Characters)),
-    (
-        b"UniversalString",
-        Builtin::Octets(28, Loosening::Characters),
-    ),
-    (
-        b"ObjectDescriptor",
-        Builtin::Octets(7, Loosening::Characters),
-    ),
-    (b"REAL", Builtin::Octets(9, Loosening::Contained)),
-    (b"RELATIVE-OID", Builtin::Octets(13, Loosening::Contained)),
-    (b"EXTERNAL", Builtin::Elements(8)),
-    (b"EMBEDDED", Builtin::Elements(11)),
-    (b"CHARACTER", Builtin::Elements(29)),
-    (b"INSTANCE", Builtin::Elements(8)),
-];
+// The UNIVERSAL tag of the string of this word whose characters aren't read.
+fn unread_tag(word: &[u8]) -> Option<u64>
+    ensures { MatchOption result ((n : ℕ) → IsUnreadWord n word.now → ⊥) (λ n. IsUnreadWord n word.now) }
+{
+    if word == b"ObjectDescriptor".as_slice() {
+        Some(7)
+    } else if word == b"TeletexString".as_slice() {
+        Some(20)
+    } else if word == b"T61String".as_slice() {
+        Some(20)
+    } else if word == b"VideotexString".as_slice() {
+        Some(21)
+    } else if word == b"GraphicString".as_slice() {
+        Some(25)
+    } else if word == b"GeneralString".as_slice() {
+        Some(27)
+    } else if word == b"UniversalString".as_slice() {
+        Some(28)
+    } else {
+        None
+    }
+}
+
+// The UNIVERSAL tag of the type of this word whose contents are octets that aren't read.
+fn contained_tag(word: &[u8]) -> Option<u64>
+    ensures { MatchOption result ((n : ℕ) → IsContainedWord n word.now → ⊥) (λ n. IsContainedWord n word.now) }
+{
+    if word == b"REAL".as_slice() {
+        Some(9)
+    } else if word == b"RELATIVE-OID".as_slice() {
+        Some(13)
+    } else {
+        None
+    }
+}
+
+// The UNIVERSAL tag of the type with this first word whose elements are kept as they came.
+fn elements_tag(word: &[u8]) -> Option<u64>
+    ensures { MatchOption result ((n : ℕ) → IsElementsWord n word.now → ⊥) (λ n. IsElementsWord n word.now) }
+{
+    if word == b"EXTERNAL".as_slice() {
+        Some(8)
+    } else if word == b"INSTANCE".as_slice() {
+        Some(8)
+    } else if word == b"EMBEDDED".as_slice() {
+        Some(11)
+    } else if word == b"CHARACTER".as_slice() {
+        Some(29)
+    } else {
+        None
+    }
+}
+
+// The type that has this first word, and no other one of its kind.
+fn plain_type(word: &[u8]) -> Option<Builtin>
+    ensures some { IfSome result (λ b. IsWordOf b word.now) }
+    ensures none { result ≡ None → IsNoPlainWord word.now }
+{
+    if word == b"BOOLEAN".as_slice() {
+        Some(Builtin::Boolean)
+    } else if word == b"NULL".as_slice() {
+        Some(Builtin::Null)
+    } else if word == b"INTEGER".as_slice() {
+        Some(Builtin::Integer)
+    } else if word == b"OBJECT".as_slice() {
+        Some(Builtin::ObjectIdentifier)
+    } else if word == b"OCTET".as_slice() {
+        Some(Builtin::OctetString)
+    } else if word == b"BIT".as_slice() {
+        Some(Builtin::BitString)
+    } else if word == b"ENUMERATED".as_slice() {
+        Some(Builtin::Enumerated)
+    } else if word == b"UTCTime".as_slice() {
+        Some(Builtin::UtcTime)
+    } else if word == b"GeneralizedTime".as_slice() {
+        Some(Builtin::GeneralizedTime)
+    } else if word == b"ANY".as_slice() {
+        Some(Builtin::Any)
+    } else {
+        None
+    }
+}
+
+// The type of this first word whose octets or elements are kept as they came.
+fn kept_type(word: &[u8]) -> Option<Builtin>
+    ensures { MatchOption result (IsNoKeptWord word.now) (λ b. IsWordOf b word.now) }
+{
+    if let Some(number) = unread_tag(word) {
+        return Some(Builtin::Octets(number, Loosening::Characters));
+    }
+    if let Some(number) = contained_tag(word) {
+        return Some(Builtin::Octets(number, Loosening::Contained));
+    }
+    match elements_tag(word) {
+        Some(number) => Some(Builtin::Elements(number)),
+        None => None,
+    }
+}
 
 /// The type of a first word, if it is no name.
-pub fn builtin_of(word: &[u8]) -> Option<Builtin> {
-    BUILTINS.iter().find(|row| row.0 == word).map(|row| row.1)
+pub fn builtin_of(word: &[u8]) -> Option<Builtin>
+    ensures { MatchOption result (IsNoWord word.now) (λ b. IsWordOf b word.now) }
+{
+    if let Some(builtin) = plain_type(word) {
+        return Some(builtin);
+    }
+    if let Some(kind) = text_kind(word) {
+        return Some(Builtin::Text(kind));
+    }
+    kept_type(word)
 }

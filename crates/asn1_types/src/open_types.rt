@@ -1,7 +1,7 @@
 //! Types that a module leaves open: parameters (X.683), and fields of classes (X.681).
 ghost use Rattle.std.specs.Prelude.{IfOk, IfSome};
 ghost use Rattle.asn1_types.specs.Context.{IsUnchanged};
-ghost use Rattle.asn1_types.specs.Notations.{IsWithoutTag};
+ghost use Rattle.asn1_types.specs.Notations.{IsOfField, IsOpenType};
 
 use crate::builtins::{Builtin, builtin_of};
 use crate::cores::{TypeAt, place_of};
@@ -38,7 +38,7 @@ fn field_notation<'a>(
     class: Token<'a>,
     field: Token<'a>,
 ) -> Notation
-    ensures { IsWithoutTag result }
+    ensures { IsOfField result }
 {
     match word_after(class_fields(scope, module, class), field.text) {
         Some(word) => match builtin_of(word.text) {
@@ -49,6 +49,16 @@ fn field_notation<'a>(
         },
         None if is(field, b"id") => Notation::ObjectIdentifier,
         None => Notation::Any,
+    }
+}
+
+// The type of the field that words name: a class, a dot, `&` and a field. A path of several fields is any element.
+fn named_field<'a>(scope: Scope<'a>, module: usize, words: &[Token<'a>]) -> Notation
+    ensures { IsOfField result }
+{
+    match words {
+        [class, _, _, field] => field_notation(scope, module, *class, *field),
+        _ => Notation::Any,
     }
 }
 
@@ -68,23 +78,19 @@ pub fn open_notation<'a>(
     plain: &'a PlainType<'a>,
 ) -> Result<Option<Notation>, Stop>
     ensures unchanged { IsUnchanged r.old r.new }
-    ensures without_tag { IfOk result (λ found. IfSome found IsWithoutTag) }
+    ensures left_open { IfOk result (λ found. IfSome found (IsOpenType plain.now.words.items)) }
 {
     match plain.words.as_slice() {
         [name] if is_parameter(r.work.parameters, name.text) => {
             note(r, place_of(at), Loosening::Parameter)?;
             Ok(Some(Notation::Any))
         }
-        [class, _, _, field] => {
-            let notation = field_notation(r.scope, at.module, *class, *field);
+        words if has_text(words, b"&") => {
+            let notation = named_field(r.scope, at.module, words);
             if matches!(notation, Notation::Any) {
                 note(r, place_of(at), Loosening::OpenType)?;
             }
             Ok(Some(notation))
-        }
-        words if has_text(words, b"&") => {
-            note(r, place_of(at), Loosening::OpenType)?;
-            Ok(Some(Notation::Any))
         }
         _ => Ok(None),
     }

@@ -2,7 +2,8 @@
 ghost use Rattle.std.specs.Prelude.{◌≡◌, IfOk};
 ghost use Rattle.asn1_types.specs.Bounds.{DiffersInBounds, IsConstrained};
 ghost use Rattle.asn1_types.specs.Context.{IsUnchanged};
-ghost use Rattle.asn1_types.specs.Notations.{IsAsItCame, IsInItself, IsListOf, IsWithoutTag, list_by};
+ghost use Rattle.asn1_types.specs.declared.builtins.Builtin.TheVariants.{Enumerated};
+ghost use Rattle.asn1_types.specs.Notations.{IsAsItCame, IsElementsOf, IsListOf, IsOfBuiltin, IsUnderLayer, elements_by, list_by};
 ghost use Rattle.asn1_types.specs.Tagged.{IsTaggedAutomaticallyBy, IsTaggedBy};
 ghost use Rattle.asn1_types.specs.Tags.{IsTagOf, class_named, class_written, environment_of, mode_named, mode_written};
 
@@ -39,7 +40,7 @@ fn names_after<'a>(
 
 // The notation of a type that has a word of its own, and is no ENUMERATED, with the names of this index.
 fn notation_of(builtin: Builtin, names: Option<usize>) -> Notation
-    ensures { IsWithoutTag result }
+    ensures { (builtin ≡ Enumerated → ⊥) → IsOfBuiltin result builtin }
 {
     match builtin {
         Builtin::Boolean => Notation::Boolean,
@@ -75,7 +76,7 @@ pub fn builtin_notation<'a>(
     builtin: Builtin,
 ) -> Result<Notation, Stop>
     ensures unchanged { IsUnchanged r.old r.new }
-    ensures without_tag { IfOk result IsWithoutTag }
+    ensures builtin { IfOk result (λ n. (builtin ≡ Enumerated → ⊥) → IsOfBuiltin n builtin) }
 {
     if let Some(what) = loosening(builtin) {
         note(r, at(place.module, word), what)?;
@@ -322,22 +323,37 @@ fn list_by(is_set: bool, element: Box<Notation>) -> Notation
     }
 }
 
-// A type inside itself, without its tag.
-fn raw_notation<'a>(notation: &'a TypeNotation<'a>) -> Notation
-    ensures { IsWithoutTag result }
+// The elements of a SET, or else of a SEQUENCE, as they came under its tag. Of another type it is any element.
+fn elements_by(is_set: bool, is_sequence: bool) -> Notation
+    ensures { result ≡ elements_by is_set is_sequence }
+{
+    if is_set {
+        return Notation::ElementsUnder(17);
+    }
+    if is_sequence {
+        Notation::ElementsUnder(16)
+    } else {
+        Notation::Any
+    }
+}
+
+// A type inside itself that has no tag before it, whose elements are kept as they came.
+fn elements_of<'a>(notation: &'a TypeNotation<'a>) -> Notation
+    ensures { IsElementsOf notation.now result }
 {
     match untagged(notation) {
-        TypeNotation::ListOf(head, _) if is(head.word, b"SET") => Notation::ElementsUnder(17),
-        TypeNotation::ListOf(_, _) => Notation::ElementsUnder(16),
-        TypeNotation::Constructed(word, _) if is(*word, b"SET") => Notation::ElementsUnder(17),
-        TypeNotation::Constructed(word, _) if is(*word, b"SEQUENCE") => Notation::ElementsUnder(16),
+        TypeNotation::ListOf(head, _) => elements_by(is(head.word, b"SET"), true),
+        TypeNotation::Constructed(word, _) => elements_by(
+            is(*word, b"SET"),
+            is(*word, b"SEQUENCE"),
+        ),
         _ => Notation::Any,
     }
 }
 
-// Any elements as they came, under an outermost tag.
-fn as_it_came(alloc: Global, tag: Tag) -> Result<Notation, Stop>
-    ensures { IfOk result IsAsItCame }
+// Any elements as they came, under a tag.
+fn under_tag(alloc: Global, tag: Tag) -> Result<Notation, Stop>
+    ensures { IfOk result (IsUnderLayer tag.class) }
 {
     let layer = TagLayer {
         class: tag.class,
@@ -355,12 +371,12 @@ pub fn recursive<'a>(
     inner: TypeAt<'a>,
 ) -> Result<Notation, Stop>
     ensures unchanged { IsUnchanged r.old r.new }
-    ensures notation { IfOk result IsInItself }
+    ensures notation { IfOk result (IsAsItCame inner.entry.notation.now) }
 {
     note(r, place, Loosening::Recursion)?;
     let TypeNotation::Tagged(tag, _) = inner.notation else {
-        return Ok(raw_notation(inner.notation));
+        return Ok(elements_of(inner.notation));
     };
     let number = tag_number(r.scope, inner.module, tag)?;
-    as_it_came(r.alloc, number)
+    under_tag(r.alloc, number)
 }

@@ -147,21 +147,23 @@ fn own_notation<'a>(
     plain: &'a PlainType<'a>,
 ) -> Result<Option<Notation>, Stop>
     ensures continues { Continues r.old r.new }
-    ensures own { IfOk result (λ found. IfSome found (IsOwn (context_of r.new))) }
+    ensures own { IfOk result (λ found. IfSome found (IsOwn (context_of r.new) plain.now)) }
 {
     let Some(word) = plain.words.first().copied() else {
         return Err(too_deep(at));
     };
-    match builtin_of(word.text) {
-        Some(Builtin::Enumerated) => {
+    let Some(builtin) = builtin_of(word.text) else {
+        return open_notation(r, at, plain);
+    };
+    match builtin {
+        Builtin::Enumerated => {
             let index = define_enumeration(r, at)?;
             Ok(Some(Notation::Defined(index)))
         }
-        Some(builtin) => {
+        _ => {
             let notation = builtin_notation(r, at, word, builtin)?;
             Ok(Some(notation))
         }
-        None => open_notation(r, at, plain),
     }
 }
 

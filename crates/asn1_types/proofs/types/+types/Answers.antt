@@ -57,7 +57,7 @@ notation-returns-in_ok-unbounded-in-Constrained-clause-notation t c =
 
 pub plain_notation-returns-in-Some-clause-notation : goal.plain_notation-returns-in-Some-clause-notation
 plain_notation-returns-in-Some-clause-notation t c =
-    own (subst (λ (found : Option Notation). IfSome found (IsOwn (context_of c.own_notation.new.r))) c.in-Some.is c.in_ok-own.ensures.own)
+    own (subst (λ (found : Option Notation). IfSome found (IsOwn (context_of c.own_notation.new.r) c.args.plain.now)) c.in-Some.is c.in_ok-own.ensures.own)
 
 pub plain_notation-returns-in-Known-clause-notation : goal.plain_notation-returns-in-Known-clause-notation
 plain_notation-returns-in-Known-clause-notation t c =
@@ -93,7 +93,10 @@ aliased-returns-clause-notation t c =
 
 pub reference-returns-in_ok-inner-in-Open-clause-notation : goal.reference-returns-in_ok-inner-in-Open-clause-notation
 reference-returns-in_ok-inner-in-Open-clause-notation t c =
-    as_in_itself (context_of c.recursive.new.r) c.args.user.«module» c.args.name.now c.recursive.result c.recursive.ensures.notation
+    let same = continues_unchanged c.recursive.ensures.unchanged in
+    as_in_itself {j = context_of c.assign.new.r} (context_of c.recursive.new.r) c.args.user.«module» c.args.name.now c.args.place c.recursive.result
+    (continues_then c.assign.ensures same).grows same.grows c.requires.refers c.in_ok-assigned.ensures.assigned c.in_ok-assigned.ensures.«module»
+    c.in_ok-inner-in-Open.ensures c.recursive.ensures.notation
 
 pub part-returns-clause-part : goal.part-returns-clause-part
 part-returns-clause-part t c =

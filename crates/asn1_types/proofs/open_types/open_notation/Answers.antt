@@ -1,0 +1,16 @@
+use Rattle.std.proofs.Common.{◌≡◌, true, subst}
+use Rattle.std.specs.List.{list_any}
+use Rattle.std.specs.Prelude.{codes}
+use Rattle.asn1_types.specs.Names.{has_text}
+use Rattle.asn1_types.specs.Notations.{field}
+use Rattle.asn1_types.proofs.Kept.{as_field, as_parameter}
+use Rattle.asn1_types.proofs.open_types.open_notation.Goals as goal
+
+pub returns-in_ok-note-in-len1-clause-left_open : goal.returns-in_ok-note-in-len1-clause-left_open
+returns-in_ok-note-in-len1-clause-left_open c =
+    as_parameter c.as_slice.result.now c.args.plain.now.words.items c.as_slice.ensures.value c.in-len1.len_at_least c.in-len1.len_below
+
+pub returns-after-matches-clause-left_open : goal.returns-after-matches-clause-left_open
+returns-after-matches-clause-left_open c =
+    as_field c.as_slice.result.now c.args.plain.now.words.items c.has_text.result c.as_slice.ensures.value c.has_text.ensures c.if-has_text.true
+    c.named_field-notation.ensures
