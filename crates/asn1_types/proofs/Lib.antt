@@ -8,4 +8,5 @@ pub mod Searches
 pub mod Meaning
 pub mod Writing
 pub mod Words
-pub mod Kept
+pub mod AsTheyCame
+pub mod Numerals

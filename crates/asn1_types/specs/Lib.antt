@@ -15,3 +15,4 @@ pub mod Notations
 pub mod Definitions
 pub mod PartsOf
 pub mod Words
+pub mod Values

@@ -8,9 +8,8 @@ use Rattle.asn1_types.specs.declared.model.TagClass.TheVariants as classes
 use Rattle.asn1_types.specs.declared.model.TagLayer.{TagLayer}
 use Rattle.asn1_types.specs.declared.model.TagMode.TheVariants as modes
 use Rattle.asn1_types.specs.declared.tags_of_types.TagSet.{TagSet}
-use Rattle.asn1_types.specs.Tags.{IsTagOf}
+use Rattle.asn1_types.specs.Tags.{Around, IsTagOf}
 use Rattle.asn1_types.specs.Untagged.{IsUntaggedAs}
-use Rattle.asn1_syntax.specs.declared.tree.TagDefault.{TagDefault}
 use Rattle.asn1_syntax.specs.declared.tree.TagNotation.{TagNotation}
 
 -- a notation is another one under a layer
@@ -19,12 +18,12 @@ pub record IsUnder (layer : TagLayer) (inner outer : Notation) : Type 0 where
   pub is : outer ≡ notations.Tagged layer content
   pub value : content.value ≡ inner
 
--- a notation is another one under a tag that is written, in a module with this TagDefault
-pub record IsTaggedBy (environment : TagDefault) (known : List KnownType) (sets : List TagSet) (tag : TagNotation) (inner outer : Notation) : Type 0 where
+-- a notation is another one under a tag that is written
+pub record IsTaggedBy (e : Around) (sets : List TagSet) (tag : TagNotation) (inner outer : Notation) : Type 0 where
   pub is_untagged : Bool
-  pub untagged : IsUntaggedAs known sets inner is_untagged
+  pub untagged : IsUntaggedAs e.known sets inner is_untagged
   pub layer : TagLayer
-  pub is_tag : IsTagOf environment tag is_untagged layer
+  pub is_tag : IsTagOf e tag is_untagged layer
   pub under : IsUnder layer inner outer
 
 -- 24.9: a notation is another one under the automatic tag of a number: context-specific, and IMPLICIT unless the other one is untagged

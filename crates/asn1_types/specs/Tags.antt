@@ -1,11 +1,13 @@
 -- The tags of types (X.680, 24.7 to 24.9, 28.2 to 28.5, and 30).
 use Rattle.std.specs.Prelude.{◌≡◌, ◌⊎◌, ◌↔◌, ◌+◌, ℕ, Bool, true, false, List, IsTrue, Option, Some, None, All, count_by, not, codes, slice_get, if◌then◌else◌}
 use Rattle.std.specs.Str.{bytes_eq}
+use Rattle.asn1_types.specs.declared.model.KnownType.{KnownType}
 use Rattle.asn1_types.specs.declared.model.TagMode.{TagMode}
 use Rattle.asn1_types.specs.declared.model.TagMode.TheVariants as modes
 use Rattle.asn1_types.specs.declared.model.TagClass.{TagClass}
 use Rattle.asn1_types.specs.declared.model.TagClass.TheVariants as classes
 use Rattle.asn1_types.specs.declared.model.TagLayer.{TagLayer}
+use Rattle.asn1_types.specs.Values.{IsTagNumber}
 use Rattle.asn1_syntax.specs.declared.token.Token.{Token}
 use Rattle.asn1_syntax.specs.declared.tree.Module.{Module}
 use Rattle.asn1_syntax.specs.declared.tree.TagDefault.{TagDefault}
@@ -57,7 +59,17 @@ tags_of_module (Some m) = m.tags
 abbrev pub environment_of : List Module → ℕ → TagDefault
 environment_of modules index = tags_of_module (slice_get modules index)
 
--- 30.2 and 30.6: what a tag is, of the TagDefault, and whether the type under it is an untagged CHOICE or open type
-pub record IsTagOf (environment : TagDefault) (tag : TagNotation) (is_untagged : Bool) (layer : TagLayer) : Type 0 where
+-- what is around a tag that is written: the modules, the types of other crates, and the index of its module
+pub record Around : Type 0 where
+  pub modules : List Module
+  pub known : List KnownType
+  pub «module» : ℕ
+
+abbrev pub around : List Module → List KnownType → ℕ → Around
+around modules known m = record { modules = modules; known = known; «module» = m }
+
+-- 30.2 and 30.6: what a tag is, of the TagDefault of its module, and whether the type under it is an untagged CHOICE or open type
+pub record IsTagOf (e : Around) (tag : TagNotation) (is_untagged : Bool) (layer : TagLayer) : Type 0 where
   pub class : layer.class ≡ class_written tag.class
-  pub mode : (layer.mode ≡ modes.Explicit) ↔ SpecifiesExplicit environment (mode_written tag.mode) is_untagged
+  pub mode : (layer.mode ≡ modes.Explicit) ↔ SpecifiesExplicit (environment_of e.modules e.«module») (mode_written tag.mode) is_untagged
+  pub number : IsTagNumber e.modules e.known e.«module» tag.number layer.number

@@ -72,9 +72,9 @@ pub record IsNoPlainWord (word : List ℕ) : Type 0 where
   pub generalized_time : word ≡ codes "GeneralizedTime" → ⊥
   pub any : word ≡ codes "ANY" → ⊥
 
--- a word is none of a type that is kept as it came
-pub record IsNoKeptWord (word : List ℕ) : Type 0 where
-  pub unread : (number : ℕ) → IsUnreadWord number word → ⊥
+-- a word is none of a type whose contents are not read
+pub record IsNotUnread (word : List ℕ) : Type 0 where
+  pub strings : (number : ℕ) → IsUnreadWord number word → ⊥
   pub contained : (number : ℕ) → IsContainedWord number word → ⊥
   pub elements : (number : ℕ) → IsElementsWord number word → ⊥
 

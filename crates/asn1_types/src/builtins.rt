@@ -1,7 +1,7 @@
 //! The types of X.680 that have words of their own.
 ghost use Rattle.std.specs.Prelude.{◌≡◌, ℕ, IfSome, MatchOption, None};
 ghost use Rattle.asn1_types.specs.declared.model.TextKind.{TextKind};
-ghost use Rattle.asn1_types.specs.Words.{IsContainedWord, IsElementsWord, IsNoKeptWord, IsNoPlainWord, IsNoWord, IsTextWord, IsUnreadWord, IsWordOf};
+ghost use Rattle.asn1_types.specs.Words.{IsContainedWord, IsElementsWord, IsNoPlainWord, IsNoWord, IsNotUnread, IsTextWord, IsUnreadWord, IsWordOf};
 
 use crate::model::{Loosening, TextKind};
 
@@ -143,8 +143,8 @@ fn plain_type(word: &[u8]) -> Option<Builtin>
 }
 
 // The type of this first word whose octets or elements are kept as they came.
-fn kept_type(word: &[u8]) -> Option<Builtin>
-    ensures { MatchOption result (IsNoKeptWord word.now) (λ b. IsWordOf b word.now) }
+fn unread_type(word: &[u8]) -> Option<Builtin>
+    ensures { MatchOption result (IsNotUnread word.now) (λ b. IsWordOf b word.now) }
 {
     if let Some(number) = unread_tag(word) {
         return Some(Builtin::Octets(number, Loosening::Characters));
@@ -168,5 +168,5 @@ pub fn builtin_of(word: &[u8]) -> Option<Builtin>
     if let Some(kind) = text_kind(word) {
         return Some(Builtin::Text(kind));
     }
-    kept_type(word)
+    unread_type(word)
 }

@@ -4,8 +4,9 @@
 //!
 //! - the functions of `tags`: whether a tag is EXPLICIT or IMPLICIT (30.6), when parts are tagged automatically (24.2 and 28.2), and by which numbers
 //!   (24.7);
-//! - the notation under one tag (`plain::tagged`): the tag's class and its mode, by its words, the TagDefault of its module, and whether the notation
-//!   under it is untagged;
+//! - the number of a tag (`values::number_of`): decimal digits, or the name of such a value, through any number of names;
+//! - the notation under one tag (`plain::tagged`): the tag's number, its class and its mode, by its words, the TagDefault of its module, and whether the
+//!   notation under it is untagged;
 //! - the tags before the body of an assignment (`bodies::layers`): the same of each of them, in their order;
 //! - the numbers of the parts in one pair of braces (`bodies::numbers_of`): whether these are tagged automatically, and the number of each. The parts
 //!   of COMPONENTS OF get numbers too, but their own tags don't count;
@@ -15,17 +16,19 @@
 //! - the body of a SEQUENCE, a SET or a CHOICE (`bodies::body_of`): it is of its word, and has all its parts in their order;
 //! - what a definition is added as (`resolver::add_definition`);
 //! - what a name means (`scope::meaning_of`, 13.10 to 13.17): what is assigned in the module, or what it imports, through any number of modules;
+//! - which words begin a type, such as INTEGER, and the UNIVERSAL tag of each whose contents are kept as they came (`builtins::builtin_of`);
 //! - the type that a type means through names, tags and constraints (`cores::core`);
 //! - the parts in braces (`components::written_parts`): each with its name, its type and whether it is an addition, and for COMPONENTS OF those of the
 //!   root of the SEQUENCE or SET that the type after it means (24.4);
 //! - whole types and all definitions (`resolve`): each definition is that of an assigned type or of a type inside one, with the tags before its body,
 //!   and each notation in it is that of the type that a module writes, by the rules above (`AreResolved`, `IsNotation`). A name is the definition or
-//!   the notation of the assigned type that it means, or the type of another crate; a selection is the alternative of its name (29).
+//!   the notation of the assigned type that it means, or the type of another crate; a selection is the alternative of its name (29). A word has its
+//!   own notation. A parameter is any element, and so is a field of a class whose type has none of four words. A type inside itself has the elements
+//!   of what its name means, under the tag before it.
 //!
-//! The last of these leaves open the notation of a word such as INTEGER, of a parameter and of a field of a class, beyond that it has no tag that is
-//! written; which words these are; a type inside itself; and the items of an ENUMERATED.
+//! The last of these leaves open which one-word names are parameters, which type a field of a class has, and the items of an ENUMERATED.
 //!
-//! Only tested are these, the numbers of written tags, and what values and constraints are resolved to.
+//! Only tested are these, and what constraints are resolved to, and values but the numbers of tags.
 //!
 //! | Module | Holds |
 //! |---|---|

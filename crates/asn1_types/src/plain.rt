@@ -5,7 +5,8 @@ ghost use Rattle.asn1_types.specs.Context.{IsUnchanged};
 ghost use Rattle.asn1_types.specs.declared.builtins.Builtin.TheVariants.{Enumerated};
 ghost use Rattle.asn1_types.specs.Notations.{IsAsItCame, IsElementsOf, IsListOf, IsOfBuiltin, IsUnderLayer, elements_by, list_by};
 ghost use Rattle.asn1_types.specs.Tagged.{IsTaggedAutomaticallyBy, IsTaggedBy};
-ghost use Rattle.asn1_types.specs.Tags.{IsTagOf, class_named, class_written, environment_of, mode_named, mode_written};
+ghost use Rattle.asn1_types.specs.Tags.{IsTagOf, around, class_named, class_written, mode_named, mode_written};
+ghost use Rattle.asn1_types.specs.Values.{IsTagNumber};
 
 use crate::builtins::Builtin;
 use crate::constraints::{Names, constrain, constrain_list, loosening_of};
@@ -140,7 +141,8 @@ fn written_mode(tag: &TagNotation<'_>) -> Option<TagMode>
 
 // The class and the number of a tag.
 fn tag_number<'a>(scope: Scope<'a>, module: usize, tag: &'a TagNotation<'a>) -> Result<Tag, Problem>
-    ensures { IfOk result (λ t. t.class ≡ class_written tag.now.class) }
+    ensures class { IfOk result (λ t. t.class ≡ class_written tag.now.class) }
+    ensures number { IfOk result (λ t. IsTagNumber scope.entry.modules.now scope.entry.known.now «module» tag.now.number t.number) }
 {
     let number = number_of(scope, module, tag.number)?;
     if number.is_negative {
@@ -159,7 +161,7 @@ pub fn layer<'a>(
     tag: &'a TagNotation<'a>,
     is_untagged: bool,
 ) -> Result<TagLayer, Problem>
-    ensures { IfOk result (IsTagOf (environment_of r.now.scope.modules.now «module») tag.now is_untagged) }
+    ensures { IfOk result (IsTagOf (around r.now.scope.modules.now r.now.scope.known.now «module») tag.now is_untagged) }
 {
     let number = tag_number(r.scope, module, tag)?;
     Ok(tag_layer(
@@ -177,7 +179,7 @@ pub fn tagged<'a>(
     tag: &'a TagNotation<'a>,
     inner: Notation,
 ) -> Result<Notation, Stop>
-    ensures { IfOk result (IsTaggedBy (environment_of r.now.scope.modules.now «module») r.now.scope.known.now r.now.tag_sets.items tag.now inner) }
+    ensures { IfOk result (IsTaggedBy (around r.now.scope.modules.now r.now.scope.known.now «module») r.now.tag_sets.items tag.now inner) }
 {
     let layer = layer(r, module, tag, is_untagged(r, &inner)?)?;
     let content = Box::new(r.alloc, inner)?;

@@ -1,4 +1,6 @@
 //! Values of INTEGER and OBJECT IDENTIFIER, through names (X.680, 18, 31 and 32).
+ghost use Rattle.std.specs.Prelude.{[], IfOk, IfSome, ◌∷◌};
+ghost use Rattle.asn1_types.specs.Values.{IsDecimal, IsInteger, IsLiteral, IsSigned, IsValueNamed};
 
 use crate::model::{Integer, Place};
 use crate::problem::{Problem, ProblemKind, Stop, problem_at};
@@ -12,21 +14,19 @@ use std::alloc::Global;
 const MAX_NAMES: usize = 100;
 
 /// The number of decimal digits, if 64 bits hold it.
-pub fn decimal(digits: &[u8]) -> Option<u64> {
-    let mut number = 0u64;
-    for digit in digits {
-        if !digit.is_ascii_digit() {
-            return None;
-        }
-        number = number
-            .checked_mul(10)?
-            .checked_add(u64::from(*digit - b'0'))?;
+pub fn decimal(digits: &[u8]) -> Option<u64>
+    ensures { IfSome result (IsDecimal digits.now) }
+{
+    match str::from_utf8(digits) {
+        Ok(text) => text.parse::<u64>().ok(),
+        Err(_) => None,
     }
-    Some(number)
 }
 
 /// An integer of a sign and a number. Zero is not negative.
-pub fn signed(is_negative: bool, magnitude: u64) -> Integer {
+pub fn signed(is_negative: bool, magnitude: u64) -> Integer
+    ensures { IsSigned is_negative magnitude result }
+{
     Integer {
         is_negative: is_negative && magnitude != 0,
         magnitude,
@@ -63,7 +63,9 @@ pub fn value_of<'a>(
     scope: Scope<'a>,
     module: usize,
     name: Token<'a>,
-) -> Result<NamedValue<'a>, Problem> {
+) -> Result<NamedValue<'a>, Problem>
+    ensures { IfOk result (λ v. IsValueNamed scope.entry.modules.now scope.entry.known.now «module» name.entry.text.now v.module v.value.now) }
+{
     let Meaning::Assigned(place) = meaning_of(scope, module, name)? else {
         return Err(problem_at(module, name, ProblemKind::WrongAssignment));
     };
@@ -89,7 +91,9 @@ fn no_number(module: usize, value: &[Token<'_>]) -> Problem {
 }
 
 // The number that a lexical item is.
-fn literal(module: usize, is_negative: bool, token: Token<'_>) -> Result<Integer, Problem> {
+fn literal(module: usize, is_negative: bool, token: Token<'_>) -> Result<Integer, Problem>
+    ensures { IfOk result (IsLiteral is_negative token.entry.text.now) }
+{
     match decimal(token.text) {
         Some(number) => Ok(signed(is_negative, number)),
         None => Err(problem_at(module, token, ProblemKind::NoNumber)),
@@ -101,7 +105,9 @@ pub fn integer_value<'a>(
     scope: Scope<'a>,
     module: usize,
     value: &'a [Token<'a>],
-) -> Result<Integer, Problem> {
+) -> Result<Integer, Problem>
+    ensures { IfOk result (λ x. IsInteger scope.entry.modules.now scope.entry.known.now x «module» value.now) }
+{
     let mut at = NamedValue { module, value };
     for _ in 0..MAX_NAMES {
         match at.value {
@@ -136,11 +142,9 @@ pub fn item_of_value<'a>(
 }
 
 /// The number that a lexical item is: digits, or the name of a value.
-pub fn number_of<'a>(
-    scope: Scope<'a>,
-    module: usize,
-    token: Token<'a>,
-) -> Result<Integer, Problem> {
+pub fn number_of<'a>(scope: Scope<'a>, module: usize, token: Token<'a>) -> Result<Integer, Problem>
+    ensures { IfOk result (λ x. IsInteger scope.entry.modules.now scope.entry.known.now x «module» (token.entry ∷ [])) }
+{
     if token.kind == TokenKind::Number {
         return literal(module, false, token);
     }

@@ -3,7 +3,7 @@ use Rattle.std.specs.List.{list_any}
 use Rattle.std.specs.Prelude.{codes}
 use Rattle.asn1_types.specs.Names.{has_text}
 use Rattle.asn1_types.specs.Notations.{field}
-use Rattle.asn1_types.proofs.Kept.{as_field, as_parameter}
+use Rattle.asn1_types.proofs.AsTheyCame.{as_field, as_parameter}
 use Rattle.asn1_types.proofs.open_types.open_notation.Goals as goal
 
 pub returns-in_ok-note-in-len1-clause-left_open : goal.returns-in_ok-note-in-len1-clause-left_open

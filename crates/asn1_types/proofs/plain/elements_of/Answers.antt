@@ -1,6 +1,6 @@
 use Rattle.std.proofs.Common.{refl}
 use Rattle.asn1_types.specs.Notations.{of_body, of_list, of_other}
-use Rattle.asn1_types.proofs.Kept.{as_elements, elements_same}
+use Rattle.asn1_types.proofs.AsTheyCame.{as_elements, elements_same}
 use Rattle.asn1_types.proofs.plain.elements_of.Goals as goal
 
 pub returns-in-ListOf : goal.returns-in-ListOf
