@@ -8,5 +8,6 @@ pub mod Raw
 pub mod Exact
 pub mod Appends
 pub mod Rejections
+pub mod WholeBits
 pub mod Ambiguities
 pub mod Whole

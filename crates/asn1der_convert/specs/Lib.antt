@@ -1,4 +1,5 @@
 pub mod Tags
+pub mod WholeBits
 pub mod SetOrder
 pub mod Tree
 pub mod Conversion

@@ -9,6 +9,7 @@ ghost use Rattle.asn1_contents.specs.Contents.{HasContents};
 ghost use Rattle.asn1_contents.specs.ContentsType.{type_with};
 ghost use Rattle.yasna_base.specs.Bits.{bits_tag, padded};
 ghost use Rattle.yasna_base.specs.Boolean.{boolean_byte, boolean_tag};
+ghost use Rattle.yasna_base.specs.Canonical.{canonical_element};
 ghost use Rattle.yasna_base.specs.Grammar.{max_depth};
 ghost use Rattle.yasna_base.specs.Header.{OpensAt, EndsBefore};
 ghost use Rattle.yasna_bytes.specs.Header.{NoEnd};
@@ -21,6 +22,7 @@ ghost use Rattle.yasna_base.specs.declared.tag.PCBit.TheVariants.{Primitive, Con
 ghost use Rattle.asn1der_convert.specs.Ambiguity.{Encloses, MeetsAt, MeetsTo, AreTheAmbiguities};
 ghost use Rattle.asn1der_convert.specs.Parts.{AppendsElementOf, PartAt, PartsAt};
 ghost use Rattle.asn1der_convert.specs.declared.error.ConvertError.TheVariants.{Memory};
+ghost use Rattle.asn1der_convert.specs.WholeBits.{UnusedAndBytes, unused_with, AreWholeBits, WholeBitsAt};
 ghost use Rattle.asn1der_convert.specs.Tags.{IsOtherTag, IsOtherPrimitive, IsOtherConstructed, IsStringTag};
 
 use crate::ambiguity::Ambiguities;
@@ -40,7 +42,9 @@ use yasna_base::tag::{PCBit, Tag};
 use yasna_base::tags::{TAG_BITSTRING, TAG_BOOLEAN};
 use yasna_bytes::bytes::contents::read_value;
 use yasna_bytes::bytes::cursor::Cursor;
-use yasna_bytes::bytes::header::{ContentsEnd, Opened, end_of_contents, open_after_identifier};
+use yasna_bytes::bytes::header::{
+    ContentsEnd, Opened, end_of_contents, open_after_identifier, read_primitive_contents,
+};
 use yasna_bytes::bytes::segments::{bit_string, octet_string, whole_octets};
 use yasna_bytes::bytes::walk::prefix_before;
 
@@ -104,8 +108,53 @@ fn clear_unused(bytes: &mut Vec<u8>, unused: u8) -> Result<(), AllocError>
     Ok(())
 }
 
-// Appends a BIT STRING, in one piece.
-fn convert_bits<'a>(
+// How many bits are unused in a BIT STRING with these contents in BER, and its bytes (X.690, 8.6.2).
+fn unused_and_bytes(contents: &[u8]) -> Option<(u8, &[u8])>
+    ensures { MatchOption result ((b : UnusedAndBytes) → AreWholeBits b contents.now → ⊥) (λ x. AreWholeBits (unused_with x) contents.now) }
+{
+    let Some((unused, bytes)) = contents.split_first() else {
+        return None;
+    };
+    let unused = *unused;
+    if unused >= 8 || bytes.is_empty() && unused != 0 {
+        return None;
+    }
+    // So their bits have a count.
+    if bytes.len() > usize::MAX / 8 {
+        return None;
+    }
+    Some((unused, bytes))
+}
+
+// How many bits are unused in the primitive BIT STRING in BER that begins here, its bytes, and what follows it.
+fn whole_bits(cursor: Cursor<'_>) -> Option<((u8, &[u8]), &[u8])>
+    ensures { WholeBitsAt cursor.entry.levels cursor.entry.mode cursor.entry.left.now result }
+{
+    match cursor.mode {
+        BERMode::Ber => {}
+        BERMode::Der | BERMode::Cer => return None,
+    }
+    let Ok((contents, rest)) = read_primitive_contents(cursor, TAG_BITSTRING) else {
+        return None;
+    };
+    match unused_and_bytes(contents) {
+        Some(found) => Some((found, rest)),
+        None => None,
+    }
+}
+
+// Appends a BIT STRING of these bytes, of which so many bits are unused.
+fn append_bits(out: &mut Vec<u8>, unused: u8, bytes: &[u8]) -> Result<(), AllocError>
+    requires few { unused ≤ 7 }
+    requires none_of_none { bytes.now ≡ [] → unused ≡ 0 }
+    ensures { OnOk result (out.new.items ≡ out.old.items ++ canonical_element Der bits_tag Primitive (unused ∷ padded unused bytes.now)) }
+{
+    append_element(out, &[3], &[unused], bytes)?;
+    clear_unused(out, unused)
+}
+
+// Appends a BIT STRING that may be in segments, in one piece (X.690, 10.2).
+fn convert_bit_segments<'a>(
     alloc: Global,
     cursor: Cursor<'a>,
     out: &mut Vec<u8>,
@@ -120,10 +169,27 @@ fn convert_bits<'a>(
             return Err(string_error(alloc, cursor, TAG_BITSTRING, bits, rejection.kind));
         }
     };
-    let mut bytes = string;
+    let mut contents = string;
     let unused = unused_bits(count);
-    clear_unused(&mut bytes, unused)?;
-    append_element(out, &[3], &[unused], &bytes)?;
+    clear_unused(&mut contents, unused)?;
+    contents.insert(0, unused)?;
+    append_contents(out, &[3], contents)?;
+    Ok(rest)
+}
+
+// Appends a BIT STRING, in one piece, from where it is if it is primitive.
+fn convert_bits<'a>(
+    alloc: Global,
+    cursor: Cursor<'a>,
+    out: &mut Vec<u8>,
+) -> Result<&'a [u8], ConvertError>
+    requires { BeginsWithTag bits_tag cursor.left.now }
+    ensures { PartAt cursor.entry.levels cursor.entry.mode cursor.entry.left.now out.old.items out.new.items result }
+{
+    let Some(((unused, bytes), rest)) = whole_bits(cursor) else {
+        return convert_bit_segments(alloc, cursor, out);
+    };
+    append_bits(out, unused, bytes)?;
     Ok(rest)
 }
 
