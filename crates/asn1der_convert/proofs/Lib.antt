@@ -1,6 +1,8 @@
 pub mod Merging
 pub mod Rows
 pub mod SetOrder
+pub mod Shapes
+pub mod Agreements
 pub mod Weaving
 pub mod Parts
 pub mod Encodings

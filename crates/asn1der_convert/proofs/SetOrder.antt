@@ -108,30 +108,32 @@ pub one_tag_known : (ps : List SetPart) → HaveOneTag (part_tags ps) → IsOrde
 one_tag_known ps h =
     one_tag_in_order h.0 (by_octets ps) (all_order (set_order Octets) octets_rank (λ (p : SetPart). p.tag ≡ h.0) ps (tags_hold (λ t. t ≡ h.0) ps h.1))
 
-in_order_rises : (ps : List SetPart) → InOrder Octets ps → Rises (λ p q. is_lt (set_order Octets p q)) ps
-in_order_rises [] i = tt
-in_order_rises (p ∷ ps) i =
-    let rest = in_order_rises ps i.1 in
+-- elements that are in an order are each not below those before them
+pub in_order_rises : (o : SetOrder) → IsStrictWeakOrder (λ (p q : SetPart). is_lt (set_order o p q)) → (ps : List SetPart) → InOrder o ps →
+    Rises (λ p q. is_lt (set_order o p q)) ps
+in_order_rises o rank [] i = tt
+in_order_rises o rank (p ∷ ps) i =
+    let rest = in_order_rises o rank ps i.1 in
     (after ps i.0 rest, rest)
   where
-    first_bounds : (q : SetPart) (qs : List SetPart) → is_lt (set_order Octets q p) ≡ false → AllByRecursion (λ r. is_lt (set_order Octets r q) ≡ false) qs →
-        AllByRecursion (λ r. is_lt (set_order Octets r p) ≡ false) qs
+    first_bounds : (q : SetPart) (qs : List SetPart) → is_lt (set_order o q p) ≡ false → AllByRecursion (λ r. is_lt (set_order o r q) ≡ false) qs →
+        AllByRecursion (λ r. is_lt (set_order o r p) ≡ false) qs
     first_bounds q [] e a = tt
-    first_bounds q (r ∷ qs) e a = (octets_rank.chain r q p a.0 e, first_bounds q qs e a.1)
+    first_bounds q (r ∷ qs) e a = (rank.chain r q p a.0 e, first_bounds q qs e a.1)
 
     not_below : (b : Bool) → (b ≡ true → ⊥) → b ≡ false
     not_below true f = absurd (f refl)
     not_below false f = refl
 
-    after : (qs : List SetPart) → (IsSwapped Octets p qs → ⊥) → Rises (λ p q. is_lt (set_order Octets p q)) qs → AllByRecursion (λ r. is_lt (set_order Octets r p) ≡ false) qs
+    after : (qs : List SetPart) → (IsSwapped o p qs → ⊥) → Rises (λ p q. is_lt (set_order o p q)) qs → AllByRecursion (λ r. is_lt (set_order o r p) ≡ false) qs
     after [] f r = tt
     after (q ∷ qs) f r =
-        let e = not_below (is_lt (set_order Octets q p)) f in
+        let e = not_below (is_lt (set_order o q p)) f in
         (e, first_bounds q qs e r.0)
 
 -- elements that are in the order of a SET OF stay so when they are put in it
 pub in_order_already : (ps : List SetPart) → InOrder Octets ps → by_octets ps ≡ ps
-in_order_already ps i = in_order_rising (set_order Octets) octets_rank ps (in_order_rises ps i)
+in_order_already ps i = in_order_rising (set_order Octets) octets_rank ps (in_order_rises Octets octets_rank ps i)
 
 -- whether elements are in an order is decided
 either_way : (b : Bool) → (b ≡ true) ⊎ (b ≡ true → ⊥)
@@ -167,13 +169,3 @@ put_already t s i f ps a = (ps, go (decides_order Tags (by_octets ps)), a)
 pub put_one_tag : (t : Tag) (s s' : List ℕ) → t ≡ set_tag → ((ps : List SetPart) → AreElements ps s → HaveOneTag (part_tags ps)) →
     ((ps : List SetPart) → AreElements ps s → AreElements (by_octets ps) s') → PutsInOrder t s s'
 put_one_tag t s s' i one f ps a = (by_octets ps, sorted i (one_tag_known ps (one ps a)) refl, f ps a)
-
--- so were elements whose tags then ascend
-pub put_both : (s s' : List ℕ) → ((ps : List SetPart) → AreElements ps s → AreElements (by_octets ps) s') →
-    ((ps : List SetPart) → AreElements ps s' → InOrder Tags ps) → PutsInOrder set_tag s s'
-put_both s s' f up ps a = (by_octets ps, sorted refl (up (by_octets ps) (f ps a)) refl, f ps a)
-
--- others stayed as they were
-pub put_neither : (s s' : List ℕ) → ((ps : List SetPart) → AreElements ps s → AreElements (by_octets ps) s') →
-    ((ps : List SetPart) → AreElements ps s' → InOrder Tags ps → ⊥) → PutsInOrder set_tag s s
-put_neither s s' f down ps a = (ps, as_they_were (λ i known. down (by_octets ps) (f ps a) known) refl, a)

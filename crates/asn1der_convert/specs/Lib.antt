@@ -5,5 +5,6 @@ pub mod Tree
 pub mod Conversion
 pub mod ContentsClass
 pub mod Rows
+pub mod Agreement
 pub mod Parts
 pub mod Ambiguity

@@ -6,6 +6,7 @@ ghost use Rattle.asn1der_convert.specs.Rows.{AreElements, part_of};
 ghost use Rattle.asn1der_convert.specs.Parts.{PutsInOrder};
 ghost use Rattle.asn1der_convert.specs.SetOrder.{set_order, by_octets, InOrder};
 
+use crate::agreement::is_order_known;
 use crate::elements::{count_elements, first_element, have_one_tag};
 use crate::sorting::sort_first;
 use std::alloc::{AllocError, Global};
@@ -23,8 +24,8 @@ pub enum SetOrder {
     Octets,
 }
 
-// Whether an element is before another in an order.
-fn is_before(order: SetOrder, element: RawElement<'_>, other: RawElement<'_>) -> bool
+/// Whether an element is before another in an order.
+pub fn is_before(order: SetOrder, element: RawElement<'_>, other: RawElement<'_>) -> bool
     ensures { result ≡ is_lt (set_order order (part_of element.entry) (part_of other.entry)) }
 {
     match order {
@@ -70,14 +71,10 @@ fn sort_by_both(alloc: Global, elements: &mut [u8]) -> Result<(), AllocError>
     ensures len { length elements.new ≡ length elements.old }
     ensures sorted { OnOk result (PutsInOrder set_tag elements.old elements.new) }
 {
-    let mut copy = Vec::with_capacity(alloc, elements.len())?;
-    copy.extend_from_slice(elements)?;
-    sort_elements(alloc, elements)?;
-    if are_in_order(SetOrder::Tags, elements) {
+    if !is_order_known(alloc, elements)? {
         return Ok(());
     }
-    elements.copy_from_slice(&copy);
-    Ok(())
+    sort_elements(alloc, elements)
 }
 
 /// Puts the elements within one that has this tag in the order that DER requires.
