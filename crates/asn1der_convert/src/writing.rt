@@ -68,7 +68,7 @@ pub fn enclose_contents(
     Ok(())
 }
 
-/// Appends an element: this identifier, a length, and contents, which an empty output takes over.
+/// Appends an element: this identifier, a length, and contents, which take over an output of fewer bytes.
 pub fn append_contents(
     out: &mut Vec<u8>,
     identifier: &[u8],
@@ -76,9 +76,16 @@ pub fn append_contents(
 ) -> Result<(), AllocError>
     ensures { OnOk result (out.new.items ≡ out.old.items ++ (identifier.now ++ (shortest_length (length contents.items) ++ contents.items))) }
 {
-    if out.is_empty() {
-        *out = contents;
-        return enclose_contents(out, 0, identifier);
+    let size = contents.len();
+    if size <= out.len() {
+        return append_element(out, identifier, &[], &contents);
     }
-    append_element(out, identifier, &[], &contents)
+    let mut all = contents;
+    all.extend_from_slice(out)?;
+    all.extend_from_slice(identifier)?;
+    push_length(&mut all, size)?;
+    let before = all.len() - size;
+    all.rotate_right(before);
+    *out = all;
+    Ok(())
 }
