@@ -37,7 +37,8 @@ pub record HasBit (p : SetPart) (bit : PCBit) : Type 0 where
   pub rest : List ℕ
   pub joined : p.bytes ≡ identifier p.tag bit ++ rest
 
-element_tag : (p : SetPart) → IsElementPart p → BeginsWithTag p.tag p.bytes
+-- an element begins with its tag
+pub element_tag : (p : SetPart) → IsElementPart p → BeginsWithTag p.tag p.bytes
 element_tag p h =
     let e = raw_element h.value p.bytes (raw_into 100 Ber h.value p.bytes h.raw) in
     subst (λ t. BeginsWithTag t p.bytes) (sym h.tag) (element_begins Ber h.value.tag h.value.bit e.contents p.bytes e.element)
@@ -262,7 +263,7 @@ agree_unsorted (p ∷ ps) a =
     (all_order_back (set_order Octets) octets_rank (Agree p) ps r.0, agree_unsorted ps r.1)
 
 -- bytes that tie are equal
-equal_same : (a b : List ℕ) → octets_cmp a b ≡ Equal → a ≡ b
+pub equal_same : (a b : List ℕ) → octets_cmp a b ≡ Equal → a ≡ b
 equal_same [] [] e = refl
 equal_same [] (y ∷ b) e = let f : Less ≡ Equal = e in absurd (cc)
 equal_same (x ∷ a) [] e = let f : Greater ≡ Equal = e in absurd (cc)

@@ -4,6 +4,7 @@ pub mod SetOrder
 pub mod Shapes
 pub mod Agreements
 pub mod Weaving
+pub mod Turning
 pub mod Parts
 pub mod Encodings
 pub mod Raw

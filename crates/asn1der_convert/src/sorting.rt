@@ -1,7 +1,7 @@
 //! Elements put in the order of a SET OF in their own memory (X.690, 11.6).
 //!
-//! Two halves that are in order are woven into one: the first is copied, and the lesser of the two next elements goes to the front each time. So
-//! it takes half of the elements' memory besides.
+//! Two halves that are in order are woven into one: that of fewer bytes is copied, and the lesser of the two next elements goes to the front each
+//! time. So it takes half of the elements' memory besides.
 ghost use Rattle.std.specs.Prelude.{◌≡◌, ◌≤◌, IfOk, OnOk, List, length, take, drop};
 ghost use Rattle.yasna_base.specs.Set.{SetPart};
 ghost use Rattle.asn1der_convert.specs.Rows.{BeforeAt, Weaves, SortsFirst};
@@ -47,8 +47,8 @@ fn weave(elements: &mut [u8], others: &[u8])
     }
 }
 
-// Puts elements in order, of which those in the first bytes are in order, and so are the others.
-fn merge(alloc: Global, elements: &mut [u8], size: usize) -> Result<(), AllocError>
+// Puts elements in order, of which those in the first bytes are in order, and so are the others. The former are copied.
+fn copy_and_weave(alloc: Global, elements: &mut [u8], size: usize) -> Result<(), AllocError>
     requires { size ≤ length elements.old }
     ensures len { length elements.new ≡ length elements.old }
     ensures woven { OnOk result (Weaves (take size elements.old) elements.old elements.new) }
@@ -57,6 +57,24 @@ fn merge(alloc: Global, elements: &mut [u8], size: usize) -> Result<(), AllocErr
     copy.extend_from_slice(&elements[..size])?;
     weave(elements, &copy);
     Ok(())
+}
+
+// Of up to so many bytes a copy is cheaper than an exchange of two rows of elements.
+const FEW_BYTES: usize = 65536;
+
+// Puts elements in order, of which those in the first bytes are in order, and so are the others. Those of fewer bytes are copied, or the former if
+// they are few.
+fn merge(alloc: Global, elements: &mut [u8], size: usize) -> Result<(), AllocError>
+    requires { size ≤ length elements.old }
+    ensures len { length elements.new ≡ length elements.old }
+    ensures woven { OnOk result (Weaves (take size elements.old) elements.old elements.new) }
+{
+    let rest = elements.len() - size;
+    if size <= rest || size <= FEW_BYTES {
+        return copy_and_weave(alloc, elements, size);
+    }
+    elements.rotate_left(size);
+    copy_and_weave(alloc, elements, rest)
 }
 
 // The size of the first of these elements.
