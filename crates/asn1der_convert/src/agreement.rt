@@ -3,9 +3,9 @@
 //! Two elements disagree if one has the lower tag, and the other the lower octets. By octets, elements of two tags are in the order of their
 //! identifiers. Those of one class, one bit and one size are in the order of their numbers. So what agrees with the least and the greatest
 //! number among these agrees with those between. Two elements are remembered of each such shape, of which there are at most 88.
-ghost use Rattle.std.specs.Prelude.{◌≡◌, ◌↔◌, IsTrue, IfOk, OnOk, List, MatchOption, length};
+ghost use Rattle.std.specs.Prelude.{◌≡◌, ◌↔◌, IsTrue, IfOk, OnOk, List};
 ghost use Rattle.yasna_base.specs.Set.{SetPart};
-ghost use Rattle.asn1der_convert.specs.Agreement.{Agree, AgreesWithAll, AgreesWithin, HasShape, ShapeAt, PlaceAt, Widens, Remembers};
+ghost use Rattle.asn1der_convert.specs.Agreement.{Agree, AgreesWithAll, ShapeAt, PlaceAt, Widens, Remembers};
 ghost use Rattle.asn1der_convert.specs.Rows.{AreElements, part_of};
 ghost use Rattle.asn1der_convert.specs.SetOrder.{IsOrderKnown};
 
