@@ -1,5 +1,5 @@
 -- A word with which no type begins is none of each kind.
-use Rattle.std.proofs.Common.{◌≡◌, ℕ, List, Option, Some, None, ⊎_elim}
+use Rattle.std.proofs.Common.{ℕ, List, Option, Some, None, ⊎_elim}
 use Rattle.std.specs.Prelude.{MatchOption}
 use Rattle.asn1_types.specs.declared.builtins.Builtin.{Builtin}
 use Rattle.asn1_types.specs.declared.builtins.Builtin.TheVariants.{Boolean, Null, Integer, ObjectIdentifier, OctetString, BitString, Enumerated, Text, UtcTime, GeneralizedTime, Any, Octets, Elements}

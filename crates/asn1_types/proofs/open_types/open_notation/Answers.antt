@@ -1,8 +1,3 @@
-use Rattle.std.proofs.Common.{◌≡◌, true, subst}
-use Rattle.std.specs.List.{list_any}
-use Rattle.std.specs.Prelude.{codes}
-use Rattle.asn1_types.specs.Names.{has_text}
-use Rattle.asn1_types.specs.Notations.{field}
 use Rattle.asn1_types.proofs.AsTheyCame.{as_field, as_parameter}
 use Rattle.asn1_types.proofs.open_types.open_notation.Goals as goal
 
