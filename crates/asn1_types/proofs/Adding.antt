@@ -19,7 +19,7 @@ use Rattle.asn1_types.specs.Definitions.{Continues, IsBodyOf, IsDefinition, alia
 use Rattle.asn1_types.specs.Layers.{AreLayers}
 use Rattle.asn1_types.specs.Names.{IsAssigned}
 use Rattle.asn1_types.specs.Notations.{IsBody, IsEnumeratedAt, IsNotation, in_place}
-use Rattle.asn1_types.specs.Tags.{Around, around}
+use Rattle.asn1_types.specs.Tags.{TagSite, tag_site}
 use Rattle.asn1_types.proofs.Growing.{added_grows, continues_added, continues_at, continues_then, continues_unchanged, grow_body, grow_body_of, grow_notation}
 use Rattle.asn1_types.proofs.Later.{there_at_end}
 use Rattle.asn1_syntax.specs.declared.token.Token.{Token}
@@ -84,15 +84,15 @@ module _ {a b : Context} {index assignment : ℕ} {place : Place} {tags : List T
       alias (is_assigned m t assigned at) (added.body_is ∙ is) (added.tags_are ∙ none) (notation_there m t n at notation)
 
   pub is_with_body : (m : ℕ) (t : TypeNotation) → IsAssigned a.modules m assignment t → place.module ≡ m →
-      AreLayers (around a.modules a.known m) (is_choice body) [] t tags → IsBodyOf a m t body → IsDefinition b added.definition
+      AreLayers (tag_site a.modules a.known m) (is_choice body) [] t tags → IsBodyOf a m t body → IsDefinition b added.definition
   is_with_body m t assigned at layers is =
-      let e : Around = around b.modules b.known added.definition.place.module in
-      let of_known : AreLayers (around a.modules b.known m) (is_choice body) [] t tags =
-      subst (λ (x : List KnownType). AreLayers (around a.modules x m) (is_choice body) [] t tags) (sym added.known) layers in
-      let of_modules : AreLayers (around b.modules b.known m) (is_choice body) [] t tags =
-      subst (λ (x : List Module). AreLayers (around x b.known m) (is_choice body) [] t tags) (sym added.modules) of_known in
+      let e : TagSite = tag_site b.modules b.known added.definition.place.module in
+      let of_known : AreLayers (tag_site a.modules b.known m) (is_choice body) [] t tags =
+      subst (λ (x : List KnownType). AreLayers (tag_site a.modules x m) (is_choice body) [] t tags) (sym added.known) layers in
+      let of_modules : AreLayers (tag_site b.modules b.known m) (is_choice body) [] t tags =
+      subst (λ (x : List Module). AreLayers (tag_site x b.known m) (is_choice body) [] t tags) (sym added.modules) of_known in
       let of_module : AreLayers e (is_choice body) [] t tags =
-      subst (λ (x : ℕ). AreLayers (around b.modules b.known x) (is_choice body) [] t tags) (sym (module_is m at)) of_modules in
+      subst (λ (x : ℕ). AreLayers (tag_site b.modules b.known x) (is_choice body) [] t tags) (sym (module_is m at)) of_modules in
       let of_body : AreLayers e (is_choice added.definition.body) [] t tags =
       subst (λ (x : Body). AreLayers e (is_choice x) [] t tags) (sym added.body_is) of_module in
       let of_tags : AreLayers e (is_choice added.definition.body) [] t added.definition.tags.items =
@@ -146,12 +146,12 @@ module _ {a b e : Resolver} {m index : ℕ} {t : TypeNotation} {place : Place} {
       let then : IsNotation (context_of b) m t n = subst (λ (k : Context). IsNotation k m t n) (sym same.context) notation in
       continues_then (continues_unchanged same) (continues_added added (is_alias added m t n (assigned_then same assigned) at none is then) same_work)
 
-  pub continues_with_body : (flag : Bool) → flag ≡ is_choice body → AreLayers (around a.scope.modules.now a.scope.known.now m) flag [] t tags →
+  pub continues_with_body : (flag : Bool) → flag ≡ is_choice body → AreLayers (tag_site a.scope.modules.now a.scope.known.now m) flag [] t tags →
       IsBodyOf (context_of a) m t body → Continues a e
   continues_with_body flag is layers body_is =
-      let of_flag : AreLayers (around (context_of a).modules (context_of a).known m) (is_choice body) [] t tags =
-      subst (λ (x : Bool). AreLayers (around (context_of a).modules (context_of a).known m) x [] t tags) is layers in
-      let then : AreLayers (around (context_of b).modules (context_of b).known m) (is_choice body) [] t tags =
-      subst (λ (k : Context). AreLayers (around k.modules k.known m) (is_choice body) [] t tags) (sym same.context) of_flag in
+      let of_flag : AreLayers (tag_site (context_of a).modules (context_of a).known m) (is_choice body) [] t tags =
+      subst (λ (x : Bool). AreLayers (tag_site (context_of a).modules (context_of a).known m) x [] t tags) is layers in
+      let then : AreLayers (tag_site (context_of b).modules (context_of b).known m) (is_choice body) [] t tags =
+      subst (λ (k : Context). AreLayers (tag_site k.modules k.known m) (is_choice body) [] t tags) (sym same.context) of_flag in
       let body_then : IsBodyOf (context_of b) m t body = subst (λ (k : Context). IsBodyOf k m t body) (sym same.context) body_is in
       continues_then (continues_unchanged same) (continues_added added (is_with_body added m t (assigned_then same assigned) at then body_then) same_work)

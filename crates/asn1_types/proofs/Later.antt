@@ -11,7 +11,7 @@ use Rattle.asn1_types.specs.declared.model.TagLayer.{TagLayer}
 use Rattle.asn1_types.specs.declared.tags_of_types.TagSet.{TagSet}
 use Rattle.asn1_types.specs.Context.{Stays}
 use Rattle.asn1_types.specs.Parts.{IsFinished}
-use Rattle.asn1_types.specs.Tags.{around}
+use Rattle.asn1_types.specs.Tags.{tag_site}
 use Rattle.asn1_types.specs.Tagged.{IsTaggedAutomaticallyBy, IsTaggedBy, IsTaggedIf}
 use Rattle.asn1_types.specs.Untagged.{IsUntaggedAs, IsUntaggedBody, IsUntaggedWithin, is_untagged_set, of_crate, of_definition, open_type, with_tag}
 use Rattle.asn1_syntax.specs.declared.tree.Module.{Module}
@@ -42,8 +42,8 @@ module _ (known : List KnownType) (sets later : List TagSet) (stays : Stays sets
   untagged_later (of_crate is flag) = of_crate is flag
   untagged_later (with_tag any defined imported flag) = with_tag any defined imported flag
 
-  pub tagged_later : {modules : List Module} {m : ℕ} {tag : TagNotation} {n outer : Notation} → IsTaggedBy (around modules known m) sets tag n outer →
-      IsTaggedBy (around modules known m) later tag n outer
+  pub tagged_later : {modules : List Module} {m : ℕ} {tag : TagNotation} {n outer : Notation} → IsTaggedBy (tag_site modules known m) sets tag n outer →
+      IsTaggedBy (tag_site modules known m) later tag n outer
   tagged_later t = record {
     is_untagged = t.is_untagged;
     untagged = untagged_later t.untagged;

@@ -33,7 +33,7 @@ use Rattle.asn1_types.specs.Numbers.{AreNumbers}
 use Rattle.asn1_types.specs.Parts.{IsFinished}
 use Rattle.asn1_types.specs.PartsOf.{ArePartsOf, IsPartOf}
 use Rattle.asn1_types.specs.Tagged.{IsTaggedBy}
-use Rattle.asn1_types.specs.Tags.{around, environment_of}
+use Rattle.asn1_types.specs.Tags.{tag_site, environment_of}
 use Rattle.asn1_types.specs.Words.{IsNoWord}
 use Rattle.asn1_types.specs.Written.{AreWritten}
 use Rattle.asn1_types.proofs.Adding.{continues_outcome, is_in_place, is_inside}
@@ -101,7 +101,7 @@ module _ (k : Context) (m : ℕ) (v : TypeNotation) where
   as_plain t (Err e) is of = tt
 
   pub as_tagged : (tag : TagNotation) (inner : Box TypeNotation) (n : Notation) (r : Result Notation Stop) → v ≡ trees.Tagged tag inner →
-      IsNotation k m inner.value n → IfOk r (IsTaggedBy (around k.modules k.known m) k.sets tag n) → IfOk r (IsNotation k m v)
+      IsNotation k m inner.value n → IfOk r (IsTaggedBy (tag_site k.modules k.known m) k.sets tag n) → IfOk r (IsNotation k m v)
   as_tagged tag inner n (Ok outer) is of tagged = subst (λ (u : TypeNotation). IsNotation k m u outer) (sym is) (notations_are.under_tag of tagged)
   as_tagged tag inner n (Err e) is of tagged = tt
 

@@ -12,7 +12,7 @@ use Rattle.asn1_types.specs.Context.{Context, Grows, context_of}
 use Rattle.asn1_types.specs.Layers.{AreLayers}
 use Rattle.asn1_types.specs.Names.{IsAssigned}
 use Rattle.asn1_types.specs.Notations.{IsBody, IsNotation}
-use Rattle.asn1_types.specs.Tags.{around}
+use Rattle.asn1_types.specs.Tags.{tag_site}
 use Rattle.asn1_types.specs.Trees.{IsWithin}
 use Rattle.asn1_types.specs.Untagged.{IsUntaggedWithin}
 use Rattle.asn1_syntax.specs.declared.token.Token.{Token}
@@ -37,7 +37,7 @@ pub data IsBodyOf (c : Context) (m : ℕ) (t : TypeNotation) (body : Body) : Typ
 -- a definition is that of an assigned type, or of a SEQUENCE, SET, CHOICE or ENUMERATED inside one
 pub data IsDefinition (c : Context) (d : Definition) : Type 0 where
   with_body : {t : TypeNotation} → IsAssigned c.modules d.place.module d.assignment t →
-      AreLayers (around c.modules c.known d.place.module) (is_choice d.body) [] t d.tags.items → IsBodyOf c d.place.module t d.body → IsDefinition c d
+      AreLayers (tag_site c.modules c.known d.place.module) (is_choice d.body) [] t d.tags.items → IsBodyOf c d.place.module t d.body → IsDefinition c d
   value : {t : TypeNotation} {n : Notation} → IsAssigned c.modules d.place.module d.assignment t → d.body ≡ bodies.Value n →
       d.tags.items ≡ [] → IsNotation c d.place.module t n → IsDefinition c d
   alias : {t : TypeNotation} {n : Notation} → IsAssigned c.modules d.place.module d.assignment t → d.body ≡ bodies.Alias n →

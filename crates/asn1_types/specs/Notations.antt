@@ -31,7 +31,7 @@ use Rattle.asn1_types.specs.Names.{IsAssigned, Refers, assignment_there, has_tex
 use Rattle.asn1_types.specs.Numbers.{AreNumbers}
 use Rattle.asn1_types.specs.Parts.{IsFinished}
 use Rattle.asn1_types.specs.Tagged.{IsTaggedBy, IsUnder}
-use Rattle.asn1_types.specs.Tags.{around, class_written, environment_of}
+use Rattle.asn1_types.specs.Tags.{tag_site, class_written, environment_of}
 use Rattle.asn1_types.specs.Trees.{IsWithin}
 use Rattle.asn1_types.specs.Words.{IsNoWord, IsWordOf}
 use Rattle.asn1_types.specs.Written.{AreWritten}
@@ -171,7 +171,7 @@ mutual
   pub data IsNotation (c : Context) : ℕ → TypeNotation → Notation → Type 0 where
     plain : {m : ℕ} {t : PlainType} {n : Notation} → IsPlain c m t n → IsNotation c m (trees.Plain t) n
     under_tag : {m : ℕ} {tag : TagNotation} {inner : Box TypeNotation} {n outer : Notation} → IsNotation c m inner.value n →
-        IsTaggedBy (around c.modules c.known m) c.sets tag n outer → IsNotation c m (trees.Tagged tag inner) outer
+        IsTaggedBy (tag_site c.modules c.known m) c.sets tag n outer → IsNotation c m (trees.Tagged tag inner) outer
     selected : {m other : ℕ} {name : Token} {inner : Box TypeNotation} {t : TypeNotation} {n : Notation} →
         IsAlternative c.modules c.known m inner.value name other t → IsNotation c other t n → IsNotation c m (trees.Selected name inner) n
     list : {m : ℕ} {head : ListHead} {inner : Box TypeNotation} {n outer : Notation} → IsNotation c m inner.value n →

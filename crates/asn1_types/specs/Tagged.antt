@@ -8,7 +8,7 @@ use Rattle.asn1_types.specs.declared.model.TagClass.TheVariants as classes
 use Rattle.asn1_types.specs.declared.model.TagLayer.{TagLayer}
 use Rattle.asn1_types.specs.declared.model.TagMode.TheVariants as modes
 use Rattle.asn1_types.specs.declared.tags_of_types.TagSet.{TagSet}
-use Rattle.asn1_types.specs.Tags.{Around, IsTagOf}
+use Rattle.asn1_types.specs.Tags.{TagSite, IsTagOf}
 use Rattle.asn1_types.specs.Untagged.{IsUntaggedAs}
 use Rattle.asn1_syntax.specs.declared.tree.TagNotation.{TagNotation}
 
@@ -19,7 +19,7 @@ pub record IsUnder (layer : TagLayer) (inner outer : Notation) : Type 0 where
   pub value : content.value ≡ inner
 
 -- a notation is another one under a tag that is written
-pub record IsTaggedBy (e : Around) (sets : List TagSet) (tag : TagNotation) (inner outer : Notation) : Type 0 where
+pub record IsTaggedBy (e : TagSite) (sets : List TagSet) (tag : TagNotation) (inner outer : Notation) : Type 0 where
   pub is_untagged : Bool
   pub untagged : IsUntaggedAs e.known sets inner is_untagged
   pub layer : TagLayer

@@ -60,16 +60,16 @@ abbrev pub environment_of : List Module → ℕ → TagDefault
 environment_of modules index = tags_of_module (slice_get modules index)
 
 -- what is around a tag that is written: the modules, the types of other crates, and the index of its module
-pub record Around : Type 0 where
+pub record TagSite : Type 0 where
   pub modules : List Module
   pub known : List KnownType
   pub «module» : ℕ
 
-abbrev pub around : List Module → List KnownType → ℕ → Around
-around modules known m = record { modules = modules; known = known; «module» = m }
+abbrev pub tag_site : List Module → List KnownType → ℕ → TagSite
+tag_site modules known m = record { modules = modules; known = known; «module» = m }
 
 -- 30.2 and 30.6: what a tag is, of the TagDefault of its module, and whether the type under it is an untagged CHOICE or open type
-pub record IsTagOf (e : Around) (tag : TagNotation) (is_untagged : Bool) (layer : TagLayer) : Type 0 where
+pub record IsTagOf (e : TagSite) (tag : TagNotation) (is_untagged : Bool) (layer : TagLayer) : Type 0 where
   pub class : layer.class ≡ class_written tag.class
   pub mode : (layer.mode ≡ modes.Explicit) ↔ SpecifiesExplicit (environment_of e.modules e.«module») (mode_written tag.mode) is_untagged
   pub number : IsTagNumber e.modules e.known e.«module» tag.number layer.number

@@ -17,7 +17,7 @@ pub record IsDecimal (text : List ℕ) (n : ℕ) : Type 0 where
   pub value : digits_value 10 (without_leading_plus text) ≡ n
 
 -- an integer is that of a number, and of a minus before it. Zero is not negative
-pub record IsSigned (minus : Bool) (n : ℕ) (x : Integer) : Type 0 where
+pub record IsOfSign (minus : Bool) (n : ℕ) (x : Integer) : Type 0 where
   pub magnitude : x.magnitude ≡ n
   pub sign : IsTrue x.is_negative ↔ (IsTrue minus × (n ≡ 0 → ⊥))
 
@@ -25,7 +25,7 @@ pub record IsSigned (minus : Bool) (n : ℕ) (x : Integer) : Type 0 where
 pub record IsLiteral (minus : Bool) (text : List ℕ) (x : Integer) : Type 0 where
   pub n : ℕ
   pub decimal : IsDecimal text n
-  pub is_signed : IsSigned minus n x
+  pub is_signed : IsOfSign minus n x
 
 -- the lexical items of the value that an assignment gives a name
 abbrev pub value_assigned : Assignment → Option (List Token)
@@ -45,16 +45,16 @@ pub record IsValueNamed (modules : List Module) (known : List KnownType) (m : �
   pub at : other ≡ place.«module»
 
 -- lexical items of the module at an index are an integer: digits, a minus and digits, or the name of such a value
-pub data IsInteger (modules : List Module) (known : List KnownType) (x : Integer) : ℕ → List Token → Type 0 where
-  digits : {m : ℕ} {token : Token} → IsLiteral false token.text.now x → IsInteger modules known x m (token ∷ [])
+pub data MeansInteger (modules : List Module) (known : List KnownType) (x : Integer) : ℕ → List Token → Type 0 where
+  digits : {m : ℕ} {token : Token} → IsLiteral false token.text.now x → MeansInteger modules known x m (token ∷ [])
   negative : {m : ℕ} {minus token : Token} → has_text (codes "-") minus ≡ true → IsLiteral true token.text.now x →
-      IsInteger modules known x m (minus ∷ token ∷ [])
+      MeansInteger modules known x m (minus ∷ token ∷ [])
   by_name : {m other : ℕ} {name : Token} {value : List Token} → IsValueNamed modules known m name.text.now other value →
-      IsInteger modules known x other value → IsInteger modules known x m (name ∷ [])
+      MeansInteger modules known x other value → MeansInteger modules known x m (name ∷ [])
 
 -- the number of a tag that is written: a value that isn't negative
 pub record IsTagNumber (modules : List Module) (known : List KnownType) (m : ℕ) (token : Token) (number : ℕ) : Type 0 where
   pub x : Integer
-  pub is : IsInteger modules known x m (token ∷ [])
+  pub is : MeansInteger modules known x m (token ∷ [])
   pub positive : x.is_negative ≡ false
   pub number_is : number ≡ x.magnitude

@@ -8,7 +8,7 @@ ghost use Rattle.asn1_types.specs.Notations.{HasParts, alternative_of};
 ghost use Rattle.asn1_types.specs.Parts.{IsFinished};
 ghost use Rattle.asn1_types.specs.Presence.{KeepsPresence};
 ghost use Rattle.asn1_types.specs.Tagged.{IsTaggedIf};
-ghost use Rattle.asn1_types.specs.Tags.{around, environment_of};
+ghost use Rattle.asn1_types.specs.Tags.{tag_site, environment_of};
 ghost use Rattle.asn1_types.specs.Trees.{both, has_tag_before};
 
 use crate::components::{Section, WrittenPart, WrittenParts};
@@ -45,7 +45,7 @@ fn push_layers<'a>(
     is_choice: bool,
     layers: &mut Vec<TagLayer>,
 ) -> Result<(), Stop>
-    ensures { OnOk result (AreLayers (around r.now.scope.modules.now r.now.scope.known.now «module») is_choice
+    ensures { OnOk result (AreLayers (tag_site r.now.scope.modules.now r.now.scope.known.now «module») is_choice
         layers.old.items notation.now layers.new.items) }
 {
     match notation {
@@ -68,7 +68,7 @@ fn push_layers<'a>(
 
 /// The layers of the tags before a type, outermost first, of whether the type without its tags is a CHOICE.
 pub fn layers<'a>(r: &Resolver<'a>, at: TypeAt<'a>, is_choice: bool) -> Result<Vec<TagLayer>, Stop>
-    ensures { IfOk result (λ layers. AreLayers (around r.now.scope.modules.now r.now.scope.known.now at.entry.module) is_choice
+    ensures { IfOk result (λ layers. AreLayers (tag_site r.now.scope.modules.now r.now.scope.known.now at.entry.module) is_choice
         [] at.entry.notation.now layers.items) }
 {
     let mut layers = Vec::new(r.alloc);

@@ -5,7 +5,7 @@ ghost use Rattle.asn1_types.specs.Context.{IsUnchanged};
 ghost use Rattle.asn1_types.specs.declared.builtins.Builtin.TheVariants.{Enumerated};
 ghost use Rattle.asn1_types.specs.Notations.{IsAsItCame, IsElementsOf, IsListOf, IsOfBuiltin, IsUnderLayer, elements_by, list_by};
 ghost use Rattle.asn1_types.specs.Tagged.{IsTaggedAutomaticallyBy, IsTaggedBy};
-ghost use Rattle.asn1_types.specs.Tags.{IsTagOf, around, class_named, class_written, mode_named, mode_written};
+ghost use Rattle.asn1_types.specs.Tags.{IsTagOf, tag_site, class_named, class_written, mode_named, mode_written};
 ghost use Rattle.asn1_types.specs.Values.{IsTagNumber};
 
 use crate::builtins::Builtin;
@@ -161,7 +161,7 @@ pub fn layer<'a>(
     tag: &'a TagNotation<'a>,
     is_untagged: bool,
 ) -> Result<TagLayer, Problem>
-    ensures { IfOk result (IsTagOf (around r.now.scope.modules.now r.now.scope.known.now «module») tag.now is_untagged) }
+    ensures { IfOk result (IsTagOf (tag_site r.now.scope.modules.now r.now.scope.known.now «module») tag.now is_untagged) }
 {
     let number = tag_number(r.scope, module, tag)?;
     Ok(tag_layer(
@@ -179,7 +179,7 @@ pub fn tagged<'a>(
     tag: &'a TagNotation<'a>,
     inner: Notation,
 ) -> Result<Notation, Stop>
-    ensures { IfOk result (IsTaggedBy (around r.now.scope.modules.now r.now.scope.known.now «module») r.now.tag_sets.items tag.now inner) }
+    ensures { IfOk result (IsTaggedBy (tag_site r.now.scope.modules.now r.now.scope.known.now «module») r.now.tag_sets.items tag.now inner) }
 {
     let layer = layer(r, module, tag, is_untagged(r, &inner)?)?;
     let content = Box::new(r.alloc, inner)?;

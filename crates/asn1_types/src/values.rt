@@ -1,6 +1,6 @@
 //! Values of INTEGER and OBJECT IDENTIFIER, through names (X.680, 18, 31 and 32).
 ghost use Rattle.std.specs.Prelude.{[], IfOk, IfSome, ◌∷◌};
-ghost use Rattle.asn1_types.specs.Values.{IsDecimal, IsInteger, IsLiteral, IsSigned, IsValueNamed};
+ghost use Rattle.asn1_types.specs.Values.{IsDecimal, MeansInteger, IsLiteral, IsOfSign, IsValueNamed};
 
 use crate::model::{Integer, Place};
 use crate::problem::{Problem, ProblemKind, Stop, problem_at};
@@ -25,7 +25,7 @@ pub fn decimal(digits: &[u8]) -> Option<u64>
 
 /// An integer of a sign and a number. Zero is not negative.
 pub fn signed(is_negative: bool, magnitude: u64) -> Integer
-    ensures { IsSigned is_negative magnitude result }
+    ensures { IsOfSign is_negative magnitude result }
 {
     Integer {
         is_negative: is_negative && magnitude != 0,
@@ -106,7 +106,7 @@ pub fn integer_value<'a>(
     module: usize,
     value: &'a [Token<'a>],
 ) -> Result<Integer, Problem>
-    ensures { IfOk result (λ x. IsInteger scope.entry.modules.now scope.entry.known.now x «module» value.now) }
+    ensures { IfOk result (λ x. MeansInteger scope.entry.modules.now scope.entry.known.now x «module» value.now) }
 {
     let mut at = NamedValue { module, value };
     for _ in 0..MAX_NAMES {
@@ -143,7 +143,7 @@ pub fn item_of_value<'a>(
 
 /// The number that a lexical item is: digits, or the name of a value.
 pub fn number_of<'a>(scope: Scope<'a>, module: usize, token: Token<'a>) -> Result<Integer, Problem>
-    ensures { IfOk result (λ x. IsInteger scope.entry.modules.now scope.entry.known.now x «module» (token.entry ∷ [])) }
+    ensures { IfOk result (λ x. MeansInteger scope.entry.modules.now scope.entry.known.now x «module» (token.entry ∷ [])) }
 {
     if token.kind == TokenKind::Number {
         return literal(module, false, token);
