@@ -1,5 +1,6 @@
 //! Types of modules as tables. A number in one of them is a row of another one.
 ghost use Rattle.std.specs.Prelude.{◌≡◌, []};
+ghost use Rattle.asn1show_schema.specs.Values.{universal_number};
 
 use yasna_base::tag::Tag;
 
@@ -164,7 +165,9 @@ pub struct SelectedType {
 
 impl ValueType {
     /// The number of the UNIVERSAL tag of the type.
-    pub fn universal_number(self) -> u64 {
+    pub fn universal_number(self) -> u64
+        ensures { result ≡ universal_number self }
+    {
         match self {
             ValueType::Integer(..) => 2,
             ValueType::Enumerated(..) => 10,
