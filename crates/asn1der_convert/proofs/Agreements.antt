@@ -1,12 +1,12 @@
 -- Where the orders of elements by tags and by octets agree.
 use Rattle.std.proofs.Common.{◌≡◌, ◌↔◌, IsTrue, ℕ, zero, suc, ◌^◌, ◌<◌, ◌≤◌, Bool, true, false, List, [], ◌∷◌, ◌++◌, length, Some, refl, sym, ap, ap₂, ◌∙◌, subst, arith}
-use Rattle.std.specs.Cmp.{IsTotalOrder, IsStrictWeakOrder}
+use Rattle.std.specs.Cmp.{IsStrictWeakOrder}
 use Rattle.std.specs.List.{AllByRecursion}
 use Rattle.std.specs.Ordering.{nat_cmp, is_lt, ordering_then, ordering_reverse}
 use Rattle.std.specs.Prelude.{if◌then◌else◌, slice_index_or, slice_set}
 use Rattle.std.specs.declared.cmp.Ordering.{Ordering}
 use Rattle.std.specs.declared.cmp.Ordering.TheVariants.{Less, Equal, Greater}
-use Rattle.std.proofs.lemmas.Cmp.{nat_cmp_total, nat_list_cmp_total, on_total, then_total, ranked}
+use Rattle.std.proofs.lemmas.Cmp.{nat_list_cmp_total, ranked}
 use Rattle.std.proofs.lemmas.List.Sorted.{ranks_by}
 use Rattle.yasna_base.specs.Identifier.{class_number, identifier, BeginsWithTag, begins}
 use Rattle.yasna_base.specs.Order.{octets_cmp, tag_cmp, put_in}
@@ -26,7 +26,7 @@ use Rattle.asn1der_convert.specs.declared.agreement.Bounds.{Bounds}
 use Rattle.asn1der_convert.specs.declared.agreement.Shape.{Shape}
 use Rattle.asn1der_convert.specs.declared.set_order.SetOrder.TheVariants.{Tags, Octets}
 use Rattle.asn1der_convert.proofs.Rows.{first_part, no_part}
-use Rattle.asn1der_convert.proofs.SetOrder.{octets_rank, in_order_rises}
+use Rattle.asn1der_convert.proofs.SetOrder.{octets_rank, tag_total, in_order_rises}
 use Rattle.asn1der_convert.proofs.Shapes.{compares, tag_not_below, Agreeing, agrees_between}
 
 pub agree_back : (p q : SetPart) → Agree p q → Agree q p
@@ -308,9 +308,6 @@ agree_of (p ∷ qs) r t = (both qs r.0 t.0, agree_of qs r.1 t.1)
       },
       both qs a.1 b.1,
     )
-
-tag_total : IsTotalOrder tag_cmp
-tag_total = then_total (on_total (λ (t : Tag). class_number t.tag_class) nat_cmp_total) (on_total (λ (t : Tag). t.tag_number) nat_cmp_total)
 
 tags_rank : IsStrictWeakOrder (λ (p q : SetPart). is_lt (set_order Tags p q))
 tags_rank = ranks_by tag_total (λ (p : SetPart). p.tag)

@@ -37,7 +37,7 @@ use Rattle.asn1_contents.specs.declared.contents_type.ContentsType.{ContentsType
 use Rattle.asn1_contents.specs.declared.contents_type.ContentsType.TheVariants.{Number, Nothing, Subidentifiers, Text, UtcTime, GeneralizedTime, Octets}
 use Rattle.asn1der_convert.specs.Ambiguity.{EnclosesFrom, Encloses, IsCertain, Notes, first_place}
 use Rattle.asn1der_convert.specs.Rows.{IsElementPart, AreElements}
-use Rattle.asn1der_convert.specs.Parts.{ArePartsOf, AppendsElementOf, AppendsPart, AppendsParts, PutsInOrder}
+use Rattle.asn1der_convert.specs.Parts.{ArePartsOf, AppendsBits, AppendsContents, AppendsPart, AppendsParts, PutsInOrder}
 use Rattle.asn1der_convert.specs.Tags.{IsStringTag, IsOtherPrimitive}
 use Rattle.asn1der_convert.specs.Tree.{Branch, boolean, bits, string, primitive, set_of, constructed, Tree, branch_tag, tree_tag, tree_parts, HasBranch, HasTree, branch_encoding, der_encoding}
 use Rattle.asn1der_convert.specs.declared.ambiguity.Ambiguities.{Ambiguities}
@@ -198,33 +198,38 @@ pub enclosed_added : (n : ℕ) (m : BERMode) (s : List ℕ) (end : ContentsEnd) 
 enclosed_added n m s end r t k out mid out' old new x start y =
     y.added ∙ ap (λ z. z ++ y.part.bytes) (ap (take k) x.added ∙ take_at out (concat (parts_bytes x.parts)) k (sym start))
 
--- an element with these contents in DER was appended
-pub primitive_bytes : (t : Tag) (i c d out out' : List ℕ) → i ≡ identifier t Primitive → HasContents (type_with t) Ber d c →
-    out' ≡ out ++ (i ++ (shortest_length (length d) ++ d)) → AppendsElementOf Ber t c out out'
-primitive_bytes t i c d out out' e h f = record { contents = d; meaning = h; bytes = f ∙ ap (λ z. out ++ z) (der_element t Primitive i d e) }
+-- the count of unused bits was put before bytes with zeros in these bits
+pub bits_put : (u k : ℕ) (i bytes cleared contents out out' : List ℕ) → u ≡ k → cleared ≡ padded u bytes → contents ≡ u ∷ cleared →
+    out' ≡ out ++ (i ++ (shortest_length (length contents) ++ contents)) → AppendsBits k i bytes out out'
+bits_put u k i bytes cleared contents out out' e f g h =
+    let same = g ∙ ap (λ z. u ∷ z) f ∙ ap (λ n. n ∷ padded n bytes) e in
+    h ∙ ap (λ z. out ++ (i ++ (shortest_length (length z) ++ z))) same
+
+-- contents that are those of the tag's type in a mode
+contents_in : (m : BERMode) (t : Tag) (k : ContentsType) (o c d : List ℕ) → k ≡ type_with t → m ≡ Ber → c ≡ o → HasContents k Ber d c → HasContents (type_with t) m d o
+contents_in m t k o c d is e same h =
+    subst (λ z. HasContents (type_with t) z d o) (sym e) (subst (λ z. HasContents (type_with t) Ber d z) same (subst (λ z. HasContents z Ber d c) is h))
 
 -- a string of the octets o was appended
-pub string_appended : (n : ℕ) (m : BERMode) (t : Tag) (s r o c out out' : List ℕ) → IsStringTag t → Takes (IsOctets t m n) s o r → m ≡ Ber → c ≡ o →
-    AppendsElementOf Ber t c out out' → AppendsPart n m s r out out'
-string_appended n m t s r o c out out' h x e same y =
+pub string_appended : (n : ℕ) (m : BERMode) (t : Tag) (k : ContentsType) (s r o c out out' : List ℕ) → IsStringTag t → k ≡ type_with t → Takes (IsOctets t m n) s o r →
+    m ≡ Ber → c ≡ o → AppendsContents k (t.tag_number ∷ []) c out out' → AppendsPart n m s r out out'
+string_appended n m t k s r o c out out' h is x e same y =
     let p : SetPart = record { tag = t; bytes = canonical_element Der t Primitive y.contents } in
     record {
       part = p;
-      taken = string_part n m t s r o y.contents p h x
-          (subst (λ z. HasContents (type_with t) z y.contents o) (sym e) (subst (λ z. HasContents (type_with t) Ber y.contents z) same y.meaning)) refl refl;
-      added = y.bytes;
+      taken = string_part n m t s r o y.contents p h x (contents_in m t k o c y.contents is e same y.meaning) refl refl;
+      added = y.bytes ∙ ap (λ z. out ++ z) (der_element t Primitive (t.tag_number ∷ []) y.contents (string_identifier t h));
     }
 
 -- any other primitive element was appended
-pub primitive_appended : (n : ℕ) (m : BERMode) (t : Tag) (s r o c out out' : List ℕ) → 1 ≤ n → IsOtherPrimitive t → OpensAt m t Primitive s o (definite_end r) → m ≡ Ber → c ≡ o →
-    AppendsElementOf Ber t c out out' → AppendsPart n m s r out out'
-primitive_appended n m t s r o c out out' level h x e same y =
+pub primitive_appended : (n : ℕ) (m : BERMode) (t : Tag) (k : ContentsType) (i s r o c out out' : List ℕ) → 1 ≤ n → IsOtherPrimitive t → i ≡ identifier t Primitive →
+    k ≡ type_with t → OpensAt m t Primitive s o (definite_end r) → m ≡ Ber → c ≡ o → AppendsContents k i c out out' → AppendsPart n m s r out out'
+primitive_appended n m t k i s r o c out out' level h own is x e same y =
     let p : SetPart = record { tag = t; bytes = canonical_element Der t Primitive y.contents } in
     record {
       part = p;
-      taken = primitive_part n m t s r o y.contents p level h x
-          (subst (λ z. HasContents (type_with t) z y.contents o) (sym e) (subst (λ z. HasContents (type_with t) Ber y.contents z) same y.meaning)) refl refl;
-      added = y.bytes;
+      taken = primitive_part n m t s r o y.contents p level h x (contents_in m t k o c y.contents is e same y.meaning) refl refl;
+      added = y.bytes ∙ ap (λ z. out ++ z) (der_element t Primitive i y.contents own);
     }
 
 -- a length from 128 on was appended: the count of its bytes without the zeros in front, and these bytes

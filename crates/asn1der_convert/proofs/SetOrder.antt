@@ -1,10 +1,10 @@
 -- The order of the elements of a SET or a SET OF.
 use Rattle.std.proofs.Common.{◌≡◌, ◌⊎◌, inl, inr, ℕ, Bool, true, false, List, [], ◌∷◌, length, map, refl, sym, ap, ap₂, ◌∙◌, subst, arith}
-use Rattle.std.specs.Cmp.{nat_cmp_is, IsStrictWeakOrder}
+use Rattle.std.specs.Cmp.{nat_cmp_is, IsStrictWeakOrder, IsTotalOrder}
 use Rattle.std.specs.List.{AllByRecursion}
 use Rattle.std.specs.Ordering.{is_lt, ordering_then}
 use Rattle.std.specs.declared.cmp.Ordering.TheVariants.{Equal}
-use Rattle.std.proofs.lemmas.Cmp.{nat_list_cmp_total}
+use Rattle.std.proofs.lemmas.Cmp.{nat_cmp_total, nat_list_cmp_total, on_total, then_total}
 use Rattle.std.proofs.lemmas.List.Sorted.{ranks_by}
 use Rattle.yasna_base.specs.Identifier.{class_number}
 use Rattle.yasna_base.specs.Order.{octets_cmp, tag_cmp, in_order}
@@ -13,14 +13,28 @@ use Rattle.yasna_base.specs.declared.tag.Tag.{Tag}
 use Rattle.yasna_base.proofs.Order.{Rises, rises_order, in_order_rising, in_order_map, all_order}
 use Rattle.asn1der_convert.specs.Rows.{part_tags, AreElements}
 use Rattle.asn1der_convert.specs.Parts.{PutsInOrder, ArePutInOrder, sorted, as_they_were}
-use Rattle.asn1der_convert.specs.SetOrder.{keyed_part, keyed_parts, set_order, IsSwapped, InOrder, by_octets, IsOrderKnown}
+use Rattle.asn1der_convert.specs.SetOrder.{keyed_part, keyed_parts, set_order, IsSwapped, InOrder, by_octets, sort_order, IsOrderKnown}
 use Rattle.asn1der_convert.specs.Tree.{HaveOneTag}
 use Rattle.asn1der_convert.specs.declared.set_order.SetOrder.{SetOrder}
 use Rattle.asn1der_convert.specs.declared.set_order.SetOrder.TheVariants.{Tags, Octets}
+use Rattle.asn1der_convert.specs.declared.sorting.SortKey.{SortKey}
+use Rattle.asn1der_convert.specs.declared.sorting.SortKey.TheVariants.{ByTags, ByOctets}
 
 -- octets order parts
 pub octets_rank : IsStrictWeakOrder (λ (p q : SetPart). is_lt (set_order Octets p q))
 octets_rank = ranks_by nat_list_cmp_total (λ (p : SetPart). p.bytes)
+
+-- so do tags
+pub tag_total : IsTotalOrder tag_cmp
+tag_total = then_total (on_total (λ (t : Tag). class_number t.tag_class) nat_cmp_total) (on_total (λ (t : Tag). t.tag_number) nat_cmp_total)
+
+-- and each key by which elements are sorted
+pub sort_total : (key : SortKey) → IsTotalOrder (sort_order key)
+sort_total ByTags = then_total (on_total (λ (p : SetPart). p.tag) tag_total) (on_total (λ (p : SetPart). p.bytes) nat_list_cmp_total)
+sort_total ByOctets = on_total (λ (p : SetPart). p.bytes) nat_list_cmp_total
+
+pub sort_rank : (key : SortKey) → IsStrictWeakOrder (λ (p q : SetPart). is_lt (sort_order key p q))
+sort_rank key = ranks_by (sort_total key) (λ (p : SetPart). p)
 
 abbrev part : Tag → List ℕ → SetPart
 part t b = record { tag = t; bytes = b }

@@ -1,4 +1,4 @@
--- Elements that are put in the order of a SET OF in their own memory.
+-- Elements that are sorted in their own memory.
 use Rattle.std.proofs.Common.{◌≡◌, ℕ, zero, suc, ◌+◌, ◌-◌, ◌≤◌, true, false, List, [], ◌∷◌, ◌++◌, length, take, drop, Some, None, refl, sym, ap, ap₂, ◌∙◌, subst, append-nil, append_assoc, length-append, arith}
 use Rattle.std.specs.List.{concat}
 use Rattle.std.specs.Ordering.{is_lt}
@@ -9,235 +9,236 @@ use Rattle.std.specs.List.{copy_within}
 use borrow.Rule.Slice.PartMut.{put_mid}
 use lib.Seq.{paste}
 use Rattle.yasna_base.proofs.Lists.{empty_is}
-use Rattle.yasna_base.specs.Order.{octets_cmp}
 use Rattle.yasna_base.specs.Set.{SetPart, parts_bytes}
 use Rattle.yasna_bytes.specs.declared.bytes.walk.RawElement.{RawElement}
 use Rattle.asn1der_convert.specs.Rows.{IsElementPart, AreElements, part_of, TakesFirst, NoFirst, IsSizeBefore, BeforeAt, Weaves, SortsFirst}
-use Rattle.asn1der_convert.specs.SetOrder.{set_order, by_octets}
-use Rattle.asn1der_convert.specs.declared.set_order.SetOrder.TheVariants.{Octets}
+use Rattle.asn1der_convert.specs.SetOrder.{sort_order, sorted_by}
+use Rattle.asn1der_convert.specs.declared.sorting.SortKey.{SortKey}
 use Rattle.asn1der_convert.proofs.Rows.{first_part, no_part, elements_append, one_element}
 use Rattle.asn1der_convert.proofs.Merging.{merge, merge_nothing, merge_first, merge_second, order_merge}
-use Rattle.asn1der_convert.proofs.SetOrder.{octets_rank}
+use Rattle.asn1der_convert.proofs.SetOrder.{sort_rank}
 
 -- the first bytes of those from a place on, and what is after them
 beyond : (n k : ℕ) (e b z : List ℕ) → drop n e ≡ b ++ z → length b ≡ k → (take k (drop n e) ≡ b) × (drop (n + k) e ≡ z)
 beyond n k e b z j h = (ap (take k) j ∙ take_at b z k h, sym (drop-drop k n e) ∙ ap (drop k) j ∙ drop_at b z k h)
 
--- In e the elements that were woven are before a place, and those of the second row from the place from on; l are those of the
--- first row that are left
-pub record Woven (us vs : List SetPart) (e l : List ℕ) (place from : ℕ) : Type 0 where
-  pub done : List SetPart
-  pub first : List SetPart
-  pub second : List SetPart
-  pub written : AreElements done (take place e)
-  pub left : AreElements first l
-  pub right : AreElements second (drop from e)
-  pub joined : by_octets (us ++ vs) ≡ done ++ merge (set_order Octets) first second
+module _ (key : SortKey) where
+  -- In e the elements that were woven are before a place, and those of the second row from the place from on; l are those of the
+  -- first row that are left
+  pub record Woven (us vs : List SetPart) (e l : List ℕ) (place from : ℕ) : Type 0 where
+    pub done : List SetPart
+    pub first : List SetPart
+    pub second : List SetPart
+    pub written : AreElements done (take place e)
+    pub left : AreElements first l
+    pub right : AreElements second (drop from e)
+    pub joined : sorted_by key (us ++ vs) ≡ done ++ merge (sort_order key) first second
 
-pub woven_none : (us vs : List SetPart) (e b : List ℕ) → AreElements (by_octets us) b → AreElements (by_octets vs) (drop (length b) e) → Woven us vs e b 0 (length b)
-woven_none us vs e b x y = record {
-  done = [];
-  first = by_octets us;
-  second = by_octets vs;
-  written = record { each = tt; joined = refl };
-  left = x;
-  right = y;
-  joined = order_merge (set_order Octets) octets_rank us vs;
-}
+  pub woven_none : (us vs : List SetPart) (e b : List ℕ) → AreElements (sorted_by key us) b → AreElements (sorted_by key vs) (drop (length b) e) → Woven us vs e b 0 (length b)
+  woven_none us vs e b x y = record {
+    done = [];
+    first = sorted_by key us;
+    second = sorted_by key vs;
+    written = record { each = tt; joined = refl };
+    left = x;
+    right = y;
+    joined = order_merge (sort_order key) (sort_rank key) us vs;
+  }
 
--- the first element of the first row came next
-pub woven_first : (us vs : List SetPart) (e f l : List ℕ) (place from : ℕ) (x : RawElement) (r : List ℕ) → Woven us vs e l place from → TakesFirst l x r →
-    BeforeAt (drop from e) x.bytes.now None → take (place + length x.bytes.now) f ≡ take place e ++ x.bytes.now → drop from f ≡ drop from e →
-    Woven us vs f r (place + length x.bytes.now) from
-woven_first us vs e f l place from x r w t before written stays =
-    let h = first_part w.first l x r w.left t in
-    record {
-      done = w.done ++ (part_of x ∷ []);
-      first = h.others;
-      second = w.second;
-      written = subst (AreElements (w.done ++ (part_of x ∷ []))) (sym written)
-          (elements_append w.done (part_of x ∷ []) (take place e) x.bytes.now w.written (one_element (part_of x) h.own));
-      left = h.elements;
-      right = subst (AreElements w.second) (sym stays) w.right;
-      joined = w.joined ∙ ap (λ (z : List SetPart). w.done ++ merge (set_order Octets) z w.second) h.is ∙ ap (λ (z : List SetPart). w.done ++ z) (step h.others w.second w.right)
-          ∙ sym (append_assoc w.done (part_of x ∷ []) (merge (set_order Octets) h.others w.second));
-    }
-  where
-    step : (ps ys : List SetPart) → AreElements ys (drop from e) → merge (set_order Octets) (part_of x ∷ ps) ys ≡ part_of x ∷ merge (set_order Octets) ps ys
-    step ps [] a = ap (λ (z : List SetPart). part_of x ∷ z) (sym (merge_nothing (set_order Octets) ps))
-    step ps (y ∷ ys) a = merge_first (set_order Octets) (part_of x) y ps ys (before y (concat (parts_bytes ys)) a.each.0 a.joined)
+  -- the first element of the first row came next
+  pub woven_first : (us vs : List SetPart) (e f l : List ℕ) (place from : ℕ) (x : RawElement) (r : List ℕ) → Woven us vs e l place from → TakesFirst l x r →
+      BeforeAt key (drop from e) (part_of x) None → take (place + length x.bytes.now) f ≡ take place e ++ x.bytes.now → drop from f ≡ drop from e →
+      Woven us vs f r (place + length x.bytes.now) from
+  woven_first us vs e f l place from x r w t before written stays =
+      let h = first_part w.first l x r w.left t in
+      record {
+        done = w.done ++ (part_of x ∷ []);
+        first = h.others;
+        second = w.second;
+        written = subst (AreElements (w.done ++ (part_of x ∷ []))) (sym written)
+            (elements_append w.done (part_of x ∷ []) (take place e) x.bytes.now w.written (one_element (part_of x) h.own));
+        left = h.elements;
+        right = subst (AreElements w.second) (sym stays) w.right;
+        joined = w.joined ∙ ap (λ (z : List SetPart). w.done ++ merge (sort_order key) z w.second) h.is ∙ ap (λ (z : List SetPart). w.done ++ z) (step h.others w.second w.right)
+            ∙ sym (append_assoc w.done (part_of x ∷ []) (merge (sort_order key) h.others w.second));
+      }
+    where
+      step : (ps ys : List SetPart) → AreElements ys (drop from e) → merge (sort_order key) (part_of x ∷ ps) ys ≡ part_of x ∷ merge (sort_order key) ps ys
+      step ps [] a = ap (λ (z : List SetPart). part_of x ∷ z) (sym (merge_nothing (sort_order key) ps))
+      step ps (y ∷ ys) a = merge_first (sort_order key) (part_of x) y ps ys (before y (concat (parts_bytes ys)) a.each.0 a.joined)
 
--- the elements of the second row that are left, after the first of them came next
-record SecondPart (x : RawElement) (ps : List SetPart) (ys : List SetPart) (e f : List ℕ) (place from k : ℕ) : Type 0 where
-  next : SetPart
-  others : List SetPart
-  own : IsElementPart next
-  written : take (place + k) f ≡ take place e ++ next.bytes
-  right : AreElements others (drop (from + k) f)
-  joined : merge (set_order Octets) (part_of x ∷ ps) ys ≡ next ∷ merge (set_order Octets) (part_of x ∷ ps) others
+  -- the elements of the second row that are left, after the first of them came next
+  record SecondPart (x : RawElement) (ps : List SetPart) (ys : List SetPart) (e f : List ℕ) (place from k : ℕ) : Type 0 where
+    next : SetPart
+    others : List SetPart
+    own : IsElementPart next
+    written : take (place + k) f ≡ take place e ++ next.bytes
+    right : AreElements others (drop (from + k) f)
+    joined : merge (sort_order key) (part_of x ∷ ps) ys ≡ next ∷ merge (sort_order key) (part_of x ∷ ps) others
 
-second_part : (x : RawElement) (ps ys : List SetPart) (e f : List ℕ) (place from k : ℕ) → AreElements ys (drop from e) → IsSizeBefore (drop from e) x.bytes.now k →
-    take (place + k) f ≡ take place e ++ take k (drop from e) → drop (from + k) f ≡ drop (from + k) e → SecondPart x ps ys e f place from k
-second_part x ps [] e f place from k a s written stays = absurd (omega (arith, s.some, s.within, ap length a.joined))
-second_part x ps (y ∷ ys) e f place from k a s written stays =
-    let o = s.first y (concat (parts_bytes ys)) a.each.0 a.joined in
-    let p = beyond from k e y.bytes (concat (parts_bytes ys)) a.joined (sym o.0) in
-    record {
-      next = y;
-      others = ys;
-      own = a.each.0;
-      written = written ∙ ap (λ z. take place e ++ z) p.0;
-      right = record { each = a.each.1; joined = stays ∙ p.1 };
-      joined = merge_second (set_order Octets) (part_of x) y ps ys o.1;
-    }
+  second_part : (x : RawElement) (ps ys : List SetPart) (e f : List ℕ) (place from k : ℕ) → AreElements ys (drop from e) → IsSizeBefore key (drop from e) (part_of x) k →
+      take (place + k) f ≡ take place e ++ take k (drop from e) → drop (from + k) f ≡ drop (from + k) e → SecondPart x ps ys e f place from k
+  second_part x ps [] e f place from k a s written stays = absurd (omega (arith, s.some, s.within, ap length a.joined))
+  second_part x ps (y ∷ ys) e f place from k a s written stays =
+      let o = s.first y (concat (parts_bytes ys)) a.each.0 a.joined in
+      let p = beyond from k e y.bytes (concat (parts_bytes ys)) a.joined (sym o.0) in
+      record {
+        next = y;
+        others = ys;
+        own = a.each.0;
+        written = written ∙ ap (λ z. take place e ++ z) p.0;
+        right = record { each = a.each.1; joined = stays ∙ p.1 };
+        joined = merge_second (sort_order key) (part_of x) y ps ys o.1;
+      }
 
--- the first element of the second row came next
-pub woven_second : (us vs : List SetPart) (e f l : List ℕ) (place from k : ℕ) (x : RawElement) (r : List ℕ) → Woven us vs e l place from → TakesFirst l x r →
-    IsSizeBefore (drop from e) x.bytes.now k → take (place + k) f ≡ take place e ++ take k (drop from e) → drop (from + k) f ≡ drop (from + k) e →
-    Woven us vs f l (place + k) (from + k)
-woven_second us vs e f l place from k x r w t s written stays =
-    let h = first_part w.first l x r w.left t in
-    let y = second_part x h.others w.second e f place from k w.right s written stays in
-    record {
-      done = w.done ++ (y.next ∷ []);
-      first = w.first;
-      second = y.others;
-      written = subst (AreElements (w.done ++ (y.next ∷ []))) (sym y.written)
-          (elements_append w.done (y.next ∷ []) (take place e) y.next.bytes w.written (one_element y.next y.own));
-      left = w.left;
-      right = y.right;
-      joined = w.joined ∙ ap (λ (z : List SetPart). w.done ++ merge (set_order Octets) z w.second) h.is ∙ ap (λ (z : List SetPart). w.done ++ z) y.joined ∙
-          ap (λ (z : List SetPart). w.done ++ (y.next ∷ merge (set_order Octets) z y.others)) (sym h.is) ∙
-          sym (append_assoc w.done (y.next ∷ []) (merge (set_order Octets) w.first y.others));
-    }
+  -- the first element of the second row came next
+  pub woven_second : (us vs : List SetPart) (e f l : List ℕ) (place from k : ℕ) (x : RawElement) (r : List ℕ) → Woven us vs e l place from → TakesFirst l x r →
+      IsSizeBefore key (drop from e) (part_of x) k → take (place + k) f ≡ take place e ++ take k (drop from e) → drop (from + k) f ≡ drop (from + k) e →
+      Woven us vs f l (place + k) (from + k)
+  woven_second us vs e f l place from k x r w t s written stays =
+      let h = first_part w.first l x r w.left t in
+      let y = second_part x h.others w.second e f place from k w.right s written stays in
+      record {
+        done = w.done ++ (y.next ∷ []);
+        first = w.first;
+        second = y.others;
+        written = subst (AreElements (w.done ++ (y.next ∷ []))) (sym y.written)
+            (elements_append w.done (y.next ∷ []) (take place e) y.next.bytes w.written (one_element y.next y.own));
+        left = w.left;
+        right = y.right;
+        joined = w.joined ∙ ap (λ (z : List SetPart). w.done ++ merge (sort_order key) z w.second) h.is ∙ ap (λ (z : List SetPart). w.done ++ z) y.joined ∙
+            ap (λ (z : List SetPart). w.done ++ (y.next ∷ merge (sort_order key) z y.others)) (sym h.is) ∙
+            sym (append_assoc w.done (y.next ∷ []) (merge (sort_order key) w.first y.others));
+      }
 
--- where nothing of the first row is left, the rest is in place
-pub woven_all : (us vs : List SetPart) (e l : List ℕ) (place from : ℕ) → Woven us vs e l place from → NoFirst l → from ≡ place + length l → AreElements (by_octets (us ++ vs)) e
-woven_all us vs e l place from w n room =
-    let none = no_part w.first l w.left n in
-    let empty = ap length (w.left.joined ∙ ap (λ (z : List SetPart). concat (parts_bytes z)) none) in
-    let same : from ≡ place = omega (arith, room, empty) in
-    let all = elements_append w.done w.second (take place e) (drop from e) w.written w.right in
-    let joined = w.joined ∙ ap (λ (z : List SetPart). w.done ++ merge (set_order Octets) z w.second) none in
-    subst (AreElements (by_octets (us ++ vs))) (ap (λ n. take place e ++ drop n e) same ∙ take-append-drop place e)
-    (subst (λ (z : List SetPart). AreElements z (take place e ++ drop from e)) (sym joined) all)
+  -- where nothing of the first row is left, the rest is in place
+  pub woven_all : (us vs : List SetPart) (e l : List ℕ) (place from : ℕ) → Woven us vs e l place from → NoFirst l → from ≡ place + length l → AreElements (sorted_by key (us ++ vs)) e
+  woven_all us vs e l place from w n room =
+      let none = no_part w.first l w.left n in
+      let empty = ap length (w.left.joined ∙ ap (λ (z : List SetPart). concat (parts_bytes z)) none) in
+      let same : from ≡ place = omega (arith, room, empty) in
+      let all = elements_append w.done w.second (take place e) (drop from e) w.written w.right in
+      let joined = w.joined ∙ ap (λ (z : List SetPart). w.done ++ merge (sort_order key) z w.second) none in
+      subst (AreElements (sorted_by key (us ++ vs))) (ap (λ n. take place e ++ drop n e) same ∙ take-append-drop place e)
+      (subst (λ (z : List SetPart). AreElements z (take place e ++ drop from e)) (sym joined) all)
 
--- no element is before another where none is
-pub no_size : (s b : List ℕ) → NoFirst s → BeforeAt s b None
-no_size s b n p q h e = absurd (n p q h e)
+  -- no element is before another where none is
+  pub no_size : (s : List ℕ) (b : SetPart) → NoFirst s → BeforeAt key s b None
+  no_size s b n p q h e = absurd (n p q h e)
 
--- the first element is before another
-pub size_of_first : (s b : List ℕ) (x : RawElement) (r : List ℕ) (k : ℕ) → TakesFirst s x r → is_lt (octets_cmp x.bytes.now b) ≡ true → k ≡ length x.bytes.now → BeforeAt s b (Some k)
-size_of_first s b x r k t e i = record {
-  some = omega (arith, t.some, i);
-  within = omega (arith, i, ap length t.joined, length-append x.bytes.now r);
-  first = λ p q h j.
-      let same = ap (λ (z : SetPart). z.bytes) (t.only p q h j).0 in
-      (i ∙ ap length (sym same), ap (λ z. is_lt (octets_cmp z b)) same ∙ e);
-}
+  -- the first element is before another
+  pub size_of_first : (s : List ℕ) (b : SetPart) (x : RawElement) (r : List ℕ) (k : ℕ) → TakesFirst s x r → is_lt (sort_order key (part_of x) b) ≡ true →
+      k ≡ length x.bytes.now → BeforeAt key s b (Some k)
+  size_of_first s b x r k t e i = record {
+    some = omega (arith, t.some, i);
+    within = omega (arith, i, ap length t.joined, length-append x.bytes.now r);
+    first = λ p q h j.
+        let same = (t.only p q h j).0 in
+        (i ∙ ap (λ (z : SetPart). length z.bytes) (sym same), ap (λ (z : SetPart). is_lt (sort_order key z b)) same ∙ e);
+  }
 
--- or it isn't
-pub not_before_first : (s b : List ℕ) (x : RawElement) (r : List ℕ) → TakesFirst s x r → is_lt (octets_cmp x.bytes.now b) ≡ false → BeforeAt s b None
-not_before_first s b x r t e p q h j = ap (λ (z : SetPart). is_lt (octets_cmp z.bytes b)) (t.only p q h j).0 ∙ e
+  -- or it isn't
+  pub not_before_first : (s : List ℕ) (b : SetPart) (x : RawElement) (r : List ℕ) → TakesFirst s x r → is_lt (sort_order key (part_of x) b) ≡ false → BeforeAt key s b None
+  not_before_first s b x r t e p q h j = ap (λ (z : SetPart). is_lt (sort_order key z b)) (t.only p q h j).0 ∙ e
 
--- one element is in order
-one_sorted : (ps : List SetPart) (s a z : List ℕ) (x : RawElement) (r : List ℕ) → AreElements ps a → length ps ≡ 1 → s ≡ a ++ z → TakesFirst s x r →
-    (b : List ℕ) × AreElements (by_octets ps) b × (s ≡ b ++ z) × (length x.bytes.now ≡ length b)
-one_sorted [] s a z x r h n j t = absurd (omega (arith, n))
-one_sorted (p ∷ q ∷ ps) s a z x r h n j t = absurd (omega (arith, n))
-one_sorted (p ∷ []) s a z x r h n j t =
-    let whole = h.joined ∙ append-nil p.bytes in
-    let same = t.only p z h.each.0 (j ∙ ap (λ y. y ++ z) whole) in
-    (a, h, j, ap (λ (y : SetPart). length y.bytes) (sym same.0) ∙ ap length (sym whole))
+  -- one element is in order
+  one_sorted : (ps : List SetPart) (s a z : List ℕ) (x : RawElement) (r : List ℕ) → AreElements ps a → length ps ≡ 1 → s ≡ a ++ z → TakesFirst s x r →
+      (b : List ℕ) × AreElements (sorted_by key ps) b × (s ≡ b ++ z) × (length x.bytes.now ≡ length b)
+  one_sorted [] s a z x r h n j t = absurd (omega (arith, n))
+  one_sorted (p ∷ q ∷ ps) s a z x r h n j t = absurd (omega (arith, n))
+  one_sorted (p ∷ []) s a z x r h n j t =
+      let whole = h.joined ∙ append-nil p.bytes in
+      let same = t.only p z h.each.0 (j ∙ ap (λ y. y ++ z) whole) in
+      (a, h, j, ap (λ (y : SetPart). length y.bytes) (sym same.0) ∙ ap length (sym whole))
 
-pub sorts_one : (s : List ℕ) (x : RawElement) (r : List ℕ) → TakesFirst s x r → SortsFirst 1 s s (length x.bytes.now)
-sorts_one s x r t ps a z h n j = one_sorted ps s a z x r h n j t
+  pub sorts_one : (s : List ℕ) (x : RawElement) (r : List ℕ) → TakesFirst s x r → SortsFirst key 1 s s (length x.bytes.now)
+  sorts_one s x r t ps a z h n j = one_sorted ps s a z x r h n j t
 
-none_sorted : (ps : List SetPart) (s a z : List ℕ) → AreElements ps a → length ps ≡ 1 → s ≡ a ++ z → NoFirst s → ⊥
-none_sorted [] s a z h n j f = omega (arith, n)
-none_sorted (p ∷ ps) s a z h n j f = f p (concat (parts_bytes ps) ++ z) h.each.0 (j ∙ ap (λ y. y ++ z) h.joined ∙ append_assoc p.bytes (concat (parts_bytes ps)) z)
+  none_sorted : (ps : List SetPart) (s a z : List ℕ) → AreElements ps a → length ps ≡ 1 → s ≡ a ++ z → NoFirst s → ⊥
+  none_sorted [] s a z h n j f = omega (arith, n)
+  none_sorted (p ∷ ps) s a z h n j f = f p (concat (parts_bytes ps) ++ z) h.each.0 (j ∙ ap (λ y. y ++ z) h.joined ∙ append_assoc p.bytes (concat (parts_bytes ps)) z)
 
-pub sorts_none : (s : List ℕ) (k : ℕ) → NoFirst s → SortsFirst 1 s s k
-sorts_none s k f ps a z h n j = absurd (none_sorted ps s a z h n j f)
+  pub sorts_none : (s : List ℕ) (k : ℕ) → NoFirst s → SortsFirst key 1 s s k
+  sorts_none s k f ps a z h n j = absurd (none_sorted ps s a z h n j f)
 
--- elements that are cut after the first k
-record CutElements (ps : List SetPart) (a : List ℕ) (k : ℕ) : Type 0 where
-  front : List SetPart
-  back : List SetPart
-  head : List ℕ
-  tail : List ℕ
-  is : ps ≡ front ++ back
-  count : length front ≡ k
-  first : AreElements front head
-  second : AreElements back tail
-  joined : a ≡ head ++ tail
+  -- elements that are cut after the first k
+  record CutElements (ps : List SetPart) (a : List ℕ) (k : ℕ) : Type 0 where
+    front : List SetPart
+    back : List SetPart
+    head : List ℕ
+    tail : List ℕ
+    is : ps ≡ front ++ back
+    count : length front ≡ k
+    first : AreElements front head
+    second : AreElements back tail
+    joined : a ≡ head ++ tail
 
-cut_elements : (ps : List SetPart) (a : List ℕ) (k : ℕ) → AreElements ps a → k ≤ length ps → CutElements ps a k
-cut_elements ps a zero h n = record {
-  front = [];
-  back = ps;
-  head = [];
-  tail = a;
-  is = refl;
-  count = refl;
-  first = record { each = tt; joined = refl };
-  second = h;
-  joined = refl;
-}
-cut_elements [] a (suc k) h n = absurd (omega (arith, n))
-cut_elements (p ∷ ps) a (suc k) h n =
-    let c = cut_elements ps (concat (parts_bytes ps)) k (record { each = h.each.1; joined = refl }) (omega (arith, n)) in
-    record {
-      front = p ∷ c.front;
-      back = c.back;
-      head = p.bytes ++ c.head;
-      tail = c.tail;
-      is = ap (λ (z : List SetPart). p ∷ z) c.is;
-      count = ap suc c.count;
-      first = record { each = (h.each.0, c.first.each); joined = ap (λ z. p.bytes ++ z) c.first.joined };
-      second = c.second;
-      joined = h.joined ∙ ap (λ z. p.bytes ++ z) c.joined ∙ sym (append_assoc p.bytes c.head c.tail);
-    }
+  cut_elements : (ps : List SetPart) (a : List ℕ) (k : ℕ) → AreElements ps a → k ≤ length ps → CutElements ps a k
+  cut_elements ps a zero h n = record {
+    front = [];
+    back = ps;
+    head = [];
+    tail = a;
+    is = refl;
+    count = refl;
+    first = record { each = tt; joined = refl };
+    second = h;
+    joined = refl;
+  }
+  cut_elements [] a (suc k) h n = absurd (omega (arith, n))
+  cut_elements (p ∷ ps) a (suc k) h n =
+      let c = cut_elements ps (concat (parts_bytes ps)) k (record { each = h.each.1; joined = refl }) (omega (arith, n)) in
+      record {
+        front = p ∷ c.front;
+        back = c.back;
+        head = p.bytes ++ c.head;
+        tail = c.tail;
+        is = ap (λ (z : List SetPart). p ∷ z) c.is;
+        count = ap suc c.count;
+        first = record { each = (h.each.0, c.first.each); joined = ap (λ z. p.bytes ++ z) c.first.joined };
+        second = c.second;
+        joined = h.joined ∙ ap (λ z. p.bytes ++ z) c.joined ∙ sym (append_assoc p.bytes c.head c.tail);
+      }
 
--- The first elements were put in order, then those after them, and both were woven. s, t and u are the bytes before each of these steps,
--- v those place the end, and x what the first m + n bytes were woven to
-pub sorts_both : (k h m n : ℕ) (s t u v y x : List ℕ) → h ≤ k → SortsFirst h s t m → SortsFirst (k - h) (drop m t) y n → u ≡ take m t ++ y → m ≤ length t →
-    Weaves (take m (take (m + n) u)) (take (m + n) u) x → length x ≡ m + n → v ≡ x ++ drop (m + n) u → SortsFirst k s v (m + n)
-sorts_both k h m n s t u v y x fewer first second split within woven size whole ps a z elements count joined =
-    let c = cut_elements ps a h elements (omega (arith, fewer, count)) in
-    let one = first c.front c.head (c.tail ++ z) c.first c.count (joined ∙ ap (λ i. i ++ z) c.joined ∙ append_assoc c.head c.tail z) in
-    let b = one.0 in
-    let place : length b ≡ m = sym one.3 in
-    let after : drop m t ≡ c.tail ++ z = ap (drop m) one.2 ∙ drop_at b (c.tail ++ z) m place in
-    let before : take m t ≡ b = ap (take m) one.2 ∙ take_at b (c.tail ++ z) m place in
-    let total = ap length c.is ∙ length_append c.front c.back in
-    let two = second c.back c.tail z c.second (omega (arith, total, c.count, count)) after in
-    let d = two.0 in
-    let end : length d ≡ n = sym two.3 in
-    let both : u ≡ (b ++ d) ++ z = split ∙ ap₂ (λ i j. i ++ j) before two.2 ∙ sym (append_assoc b d z) in
-    let long : length (b ++ d) ≡ m + n = length-append b d ∙ ap₂ (λ i j. i + j) place end in
-    let part : take (m + n) u ≡ b ++ d = ap (take (m + n)) both ∙ take_at (b ++ d) z (m + n) long in
-    let rest : drop (m + n) u ≡ z = ap (drop (m + n)) both ∙ drop_at (b ++ d) z (m + n) long in
-    let front : take m (take (m + n) u) ≡ b = ap (take m) part ∙ take_at b d m place in
-    let back : drop (length (take m (take (m + n) u))) (take (m + n) u) ≡ d =
-    ap (λ i. drop (length i) (take (m + n) u)) front ∙ ap (drop (length b)) part ∙ drop_at b d (length b) refl in
-    let all = woven c.front c.back (subst (AreElements (by_octets c.front)) (sym front) one.1) (subst (AreElements (by_octets c.back)) (sym back) two.1) in
-    (x, subst (λ (qs : List SetPart). AreElements (by_octets qs) x) (sym c.is) all, whole ∙ ap (λ i. x ++ i) rest, sym size)
-  where
-    length_append : (xs ys : List SetPart) → length (xs ++ ys) ≡ length xs + length ys
-    length_append xs ys = length-append xs ys
+  -- The first elements were put in order, then those after them, and both were woven. s, t and u are the bytes before each of these steps,
+  -- v those place the end, and x what the first m + n bytes were woven to
+  pub sorts_both : (k h m n : ℕ) (s t u v y x : List ℕ) → h ≤ k → SortsFirst key h s t m → SortsFirst key (k - h) (drop m t) y n → u ≡ take m t ++ y → m ≤ length t →
+      Weaves key (take m (take (m + n) u)) (take (m + n) u) x → length x ≡ m + n → v ≡ x ++ drop (m + n) u → SortsFirst key k s v (m + n)
+  sorts_both k h m n s t u v y x fewer first second split within woven size whole ps a z elements count joined =
+      let c = cut_elements ps a h elements (omega (arith, fewer, count)) in
+      let one = first c.front c.head (c.tail ++ z) c.first c.count (joined ∙ ap (λ i. i ++ z) c.joined ∙ append_assoc c.head c.tail z) in
+      let b = one.0 in
+      let place : length b ≡ m = sym one.3 in
+      let after : drop m t ≡ c.tail ++ z = ap (drop m) one.2 ∙ drop_at b (c.tail ++ z) m place in
+      let before : take m t ≡ b = ap (take m) one.2 ∙ take_at b (c.tail ++ z) m place in
+      let total = ap length c.is ∙ length_append c.front c.back in
+      let two = second c.back c.tail z c.second (omega (arith, total, c.count, count)) after in
+      let d = two.0 in
+      let end : length d ≡ n = sym two.3 in
+      let both : u ≡ (b ++ d) ++ z = split ∙ ap₂ (λ i j. i ++ j) before two.2 ∙ sym (append_assoc b d z) in
+      let long : length (b ++ d) ≡ m + n = length-append b d ∙ ap₂ (λ i j. i + j) place end in
+      let part : take (m + n) u ≡ b ++ d = ap (take (m + n)) both ∙ take_at (b ++ d) z (m + n) long in
+      let rest : drop (m + n) u ≡ z = ap (drop (m + n)) both ∙ drop_at (b ++ d) z (m + n) long in
+      let front : take m (take (m + n) u) ≡ b = ap (take m) part ∙ take_at b d m place in
+      let back : drop (length (take m (take (m + n) u))) (take (m + n) u) ≡ d =
+      ap (λ i. drop (length i) (take (m + n) u)) front ∙ ap (drop (length b)) part ∙ drop_at b d (length b) refl in
+      let all = woven c.front c.back (subst (AreElements (sorted_by key c.front)) (sym front) one.1) (subst (AreElements (sorted_by key c.back)) (sym back) two.1) in
+      (x, subst (λ (qs : List SetPart). AreElements (sorted_by key qs) x) (sym c.is) all, whole ∙ ap (λ i. x ++ i) rest, sym size)
+    where
+      length_append : (xs ys : List SetPart) → length (xs ++ ys) ≡ length xs + length ys
+      length_append xs ys = length-append xs ys
 
--- all of some elements were put in order
-pub sorts_all : (k n : ℕ) (s t : List ℕ) → ((ps : List SetPart) → AreElements ps s → k ≡ length ps) → SortsFirst k s t n → (ps : List SetPart) → AreElements ps s →
-    AreElements (by_octets ps) t
-sorts_all k n s t count sorts ps a =
-    let x = sorts ps s [] a (sym (count ps a)) (sym (append-nil s)) in
-    subst (AreElements (by_octets ps)) (sym (x.2 ∙ append-nil x.0)) x.1
+  -- all of some elements were put in order
+  pub sorts_all : (k n : ℕ) (s t : List ℕ) → ((ps : List SetPart) → AreElements ps s → k ≡ length ps) → SortsFirst key k s t n → (ps : List SetPart) → AreElements ps s →
+      AreElements (sorted_by key ps) t
+  sorts_all k n s t count sorts ps a =
+      let x = sorts ps s [] a (sym (count ps a)) (sym (append-nil s)) in
+      subst (AreElements (sorted_by key ps)) (sym (x.2 ∙ append-nil x.0)) x.1
 
--- none are in order
-pub sorts_empty : (s : List ℕ) → ((ps : List SetPart) → AreElements ps s → 0 ≡ length ps) → (ps : List SetPart) → AreElements ps s → AreElements (by_octets ps) s
-sorts_empty s count [] a = a
-sorts_empty s count (p ∷ ps) a = absurd (omega (arith, count (p ∷ ps) a))
+  -- none are in order
+  pub sorts_empty : (s : List ℕ) → ((ps : List SetPart) → AreElements ps s → 0 ≡ length ps) → (ps : List SetPart) → AreElements ps s → AreElements (sorted_by key ps) s
+  sorts_empty s count [] a = a
+  sorts_empty s count (p ∷ ps) a = absurd (omega (arith, count (p ∷ ps) a))
 
 -- the first element is within its bytes
 pub first_within : (s : List ℕ) (x : RawElement) (r : List ℕ) → TakesFirst s x r → length x.bytes.now ≤ length s

@@ -16,7 +16,7 @@ use Rattle.yasna_bytes.specs.Header.{AreContents}
 use Rattle.yasna_bytes.specs.Prefix.{Takes, HasPrefix}
 use Rattle.yasna_bytes.specs.Rejection.{Rejects}
 use Rattle.yasna_bytes.specs.declared.bytes.header.Rejection.{Rejection}
-use Rattle.asn1der_convert.specs.Parts.{AppendsPart}
+use Rattle.asn1der_convert.specs.Parts.{AppendsBits, AppendsPart}
 use Rattle.asn1der_convert.specs.WholeBits.{UnusedAndBytes, AreWholeBits}
 use Rattle.asn1der_convert.proofs.Appends.{der_element}
 use Rattle.asn1der_convert.proofs.Parts.{bits_part}
@@ -58,7 +58,7 @@ bits_taken (suc n) m s r b e x =
 
 -- it was appended
 pub whole_bits_appended : (n : ℕ) (m : BERMode) (s r out out' : List ℕ) (b : UnusedAndBytes) → m ≡ Ber → Takes (IsPrimitive AreWholeBits bits_tag m n) s b r →
-    out' ≡ out ++ canonical_element Der bits_tag Primitive (b.unused ∷ padded b.unused b.bytes) → AppendsPart n m s r out out'
+    AppendsBits b.unused (3 ∷ []) b.bytes out out' → AppendsPart n m s r out out'
 whole_bits_appended n m s r out out' b e x f =
     let c = b.unused ∷ padded b.unused b.bytes in
     let p : SetPart = record { tag = bits_tag; bytes = canonical_element Der bits_tag Primitive c } in
@@ -67,7 +67,7 @@ whole_bits_appended n m s r out out' b e x f =
     record {
       part = p;
       taken = bits_part n m s r (used_bits b) p c (bits_taken n m s r b e x) refl refl (ap (λ k. k ∷ padded k b.bytes) (sym same));
-      added = f;
+      added = f ∙ ap (λ z. out ++ z) (der_element bits_tag Primitive (3 ∷ []) c (sym (identifier_short bits_tag Primitive (omega arith))));
     }
 
 -- the contents that were read aren't such, so no such element is there
@@ -112,20 +112,17 @@ padded_length u (x ∷ []) = refl
 padded_length u (x ∷ y ∷ ys) = ap suc (padded_length u (y ∷ ys))
 
 -- the last byte of an element that was appended was cleared
-pub bits_cleared : (u : ℕ) (b out mid new : List ℕ) → (b ≡ [] → u ≡ 0) →
-    mid ≡ out ++ ((3 ∷ []) ++ (shortest_length (length ((u ∷ []) ++ b)) ++ ((u ∷ []) ++ b))) → new ≡ padded u mid →
-    new ≡ out ++ canonical_element Der bits_tag Primitive (u ∷ padded u b)
-bits_cleared u b out mid new f e g =
-    g ∙ ap (padded u) e ∙ go b f ∙ ap (λ z. out ++ z)
-    (der_element bits_tag Primitive (3 ∷ []) (u ∷ padded u b) (sym (identifier_short bits_tag Primitive (omega arith))))
+pub bits_cleared : (u : ℕ) (i b out mid new : List ℕ) → (b ≡ [] → u ≡ 0) → mid ≡ out ++ (i ++ (shortest_length (length ((u ∷ []) ++ b)) ++ ((u ∷ []) ++ b))) →
+    new ≡ padded u mid → AppendsBits u i b out new
+bits_cleared u i b out mid new f e g = g ∙ ap (padded u) e ∙ go b f
   where
-    go : (b : List ℕ) → (b ≡ [] → u ≡ 0) → padded u (out ++ ((3 ∷ []) ++ (shortest_length (length ((u ∷ []) ++ b)) ++ ((u ∷ []) ++ b)))) ≡
-        out ++ ((3 ∷ []) ++ (shortest_length (length (u ∷ padded u b)) ++ (u ∷ padded u b)))
-    go [] f = ap (λ k. padded k (out ++ ((3 ∷ []) ++ (shortest_length 1 ++ (u ∷ []))))) (f refl) ∙ padded_nothing (out ++ ((3 ∷ []) ++ (shortest_length 1 ++ (u ∷ []))))
+    go : (b : List ℕ) → (b ≡ [] → u ≡ 0) → padded u (out ++ (i ++ (shortest_length (length ((u ∷ []) ++ b)) ++ ((u ∷ []) ++ b)))) ≡
+        out ++ (i ++ (shortest_length (length (u ∷ padded u b)) ++ (u ∷ padded u b)))
+    go [] f = ap (λ k. padded k (out ++ (i ++ (shortest_length 1 ++ (u ∷ []))))) (f refl) ∙ padded_nothing (out ++ (i ++ (shortest_length 1 ++ (u ∷ []))))
     go (y ∷ ys) f =
         let l = shortest_length (length (u ∷ y ∷ ys)) in
         let size : length (u ∷ y ∷ ys) ≡ length (u ∷ padded u (y ∷ ys)) = ap suc (sym (padded_length u (y ∷ ys))) in
-        let before = out ++ ((3 ∷ []) ++ (l ++ (u ∷ []))) in
-        let split : (z : List ℕ) → before ++ z ≡ out ++ ((3 ∷ []) ++ (l ++ (u ∷ z))) = λ z. simp append_assoc in
+        let before = out ++ (i ++ (l ++ (u ∷ []))) in
+        let split : (z : List ℕ) → before ++ z ≡ out ++ (i ++ (l ++ (u ∷ z))) = λ z. simp append_assoc in
         ap (padded u) (sym (split (y ∷ ys))) ∙ padded_after u before y ys ∙ split (padded u (y ∷ ys)) ∙
-        ap (λ k. out ++ ((3 ∷ []) ++ (shortest_length k ++ (u ∷ padded u (y ∷ ys))))) size
+        ap (λ k. out ++ (i ++ (shortest_length k ++ (u ∷ padded u (y ∷ ys))))) size

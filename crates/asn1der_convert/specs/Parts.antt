@@ -1,28 +1,34 @@
 -- The elements in DER that the walk returns.
 use Rattle.std.specs.Borrow.{Bor}
-use Rattle.std.specs.Prelude.{◌≡◌, ℕ, List, ◌++◌, map, Result, Ok, Err}
+use Rattle.std.specs.Prelude.{◌≡◌, ℕ, List, ◌∷◌, ◌++◌, length, map, Result, Ok, Err}
 use Rattle.std.specs.List.{concat}
+use Rattle.yasna_base.specs.Bits.{padded}
 use Rattle.yasna_base.specs.Canonical.{canonical_element}
 use Rattle.yasna_base.specs.Header.{ContentsEnd, EndsBefore}
+use Rattle.yasna_base.specs.Length.{shortest_length}
 use Rattle.yasna_base.specs.Pieces.{Pieces}
 use Rattle.yasna_base.specs.Set.{SetPart, parts_bytes, set_tag}
 use Rattle.yasna_base.specs.declared.mode.BERMode.{BERMode}
-use Rattle.yasna_base.specs.declared.mode.BERMode.TheVariants.{Der}
-use Rattle.yasna_base.specs.declared.tag.PCBit.TheVariants.{Primitive, Constructed}
+use Rattle.yasna_base.specs.declared.mode.BERMode.TheVariants.{Ber, Der}
+use Rattle.yasna_base.specs.declared.tag.PCBit.TheVariants.{Constructed}
 use Rattle.yasna_base.specs.declared.tag.Tag.{Tag}
 use Rattle.asn1_contents.specs.Contents.{HasContents}
-use Rattle.asn1_contents.specs.ContentsType.{type_with}
+use Rattle.asn1_contents.specs.declared.contents_type.ContentsType.{ContentsType}
 use Rattle.asn1der_convert.specs.Rows.{part_tags, AreElements}
 use Rattle.asn1der_convert.specs.SetOrder.{by_octets, IsOrderKnown}
 use Rattle.asn1der_convert.specs.Tree.{Tree, tree_tag, HasTree, der_encoding}
 use Rattle.asn1der_convert.specs.declared.error.ConvertError.{ConvertError}
 use Rattle.asn1der_convert.specs.declared.error.ConvertError.TheVariants.{Memory}
 
--- the primitive element in DER whose contents are those in DER of the contents c was appended to s
-pub record AppendsElementOf (m : BERMode) (t : Tag) (c s s' : List ℕ) : Type 0 where
+-- the identifier i, a length, and the contents of a BIT STRING of these bytes, of which so many bits are unused, were appended to s
+abbrev pub AppendsBits : ℕ → List ℕ → List ℕ → List ℕ → List ℕ → Type 0
+AppendsBits unused i bytes s s' = s' ≡ s ++ (i ++ (shortest_length (length (unused ∷ padded unused bytes)) ++ (unused ∷ padded unused bytes)))
+
+-- the identifier i, a length and the contents in DER of the contents c were appended to s
+pub record AppendsContents (k : ContentsType) (i c s s' : List ℕ) : Type 0 where
   pub contents : List ℕ
-  pub meaning : HasContents (type_with t) m contents c
-  pub bytes : s' ≡ s ++ canonical_element Der t Primitive contents
+  pub meaning : HasContents k Ber contents c
+  pub bytes : s' ≡ s ++ (i ++ (shortest_length (length contents) ++ contents))
 
 -- within n levels, b is an element, and p that element in DER with its tag
 pub record IsPartOf (n : ℕ) (m : BERMode) (b : List ℕ) (p : SetPart) : Type 0 where

@@ -4,13 +4,13 @@ use Rattle.std.specs.Prelude.{◌≡◌, ℕ, ◌≤◌, List, ◌++◌, length,
 use Rattle.std.specs.List.{AllByRecursion, concat}
 use Rattle.std.specs.Ordering.{is_lt}
 use Rattle.yasna_base.specs.Grammar.{max_depth}
-use Rattle.yasna_base.specs.Order.{octets_cmp}
 use Rattle.yasna_base.specs.Raw.{RawValue, IsRaw}
 use Rattle.yasna_base.specs.Set.{SetPart, parts_bytes}
 use Rattle.yasna_base.specs.declared.mode.BERMode.TheVariants.{Ber}
 use Rattle.yasna_base.specs.declared.tag.Tag.{Tag}
 use Rattle.yasna_bytes.specs.declared.bytes.walk.RawElement.{RawElement}
-use Rattle.asn1der_convert.specs.SetOrder.{by_octets}
+use Rattle.asn1der_convert.specs.SetOrder.{sort_order, sorted_by}
+use Rattle.asn1der_convert.specs.declared.sorting.SortKey.{SortKey}
 
 -- the tag of each part
 abbrev pub part_tags : List SetPart → List Tag
@@ -46,23 +46,24 @@ abbrev pub FirstAt : List ℕ → Option (RawElement × Bor (List ℕ)) → Type
 FirstAt s (Some x) = TakesFirst s x.0 x.1.now
 FirstAt s None = NoFirst s
 
--- the element at the start of s is before the bytes b in the order of a SET OF, and has k bytes
-pub record IsSizeBefore (s b : List ℕ) (k : ℕ) : Type 0 where
+-- the element at the start of s is before the element b by the key, and has k bytes
+pub record IsSizeBefore (key : SortKey) (s : List ℕ) (b : SetPart) (k : ℕ) : Type 0 where
   pub some : 1 ≤ k
   pub within : k ≤ length s
-  pub first : (p : SetPart) (q : List ℕ) → IsElementPart p → s ≡ p.bytes ++ q → (k ≡ length p.bytes) × (is_lt (octets_cmp p.bytes b) ≡ true)
+  pub first : (p : SetPart) (q : List ℕ) → IsElementPart p → s ≡ p.bytes ++ q → (k ≡ length p.bytes) × (is_lt (sort_order key p b) ≡ true)
 
--- the size of the element at the start of s, if it is before the bytes b
-abbrev pub BeforeAt : List ℕ → List ℕ → Option ℕ → Type 0
-BeforeAt s b (Some k) = IsSizeBefore s b k
-BeforeAt s b None = (p : SetPart) (q : List ℕ) → IsElementPart p → s ≡ p.bytes ++ q → is_lt (octets_cmp p.bytes b) ≡ false
+-- the size of the element at the start of s, if it is before the element b
+abbrev pub BeforeAt : SortKey → List ℕ → SetPart → Option ℕ → Type 0
+BeforeAt key s b (Some k) = IsSizeBefore key s b k
+BeforeAt key s b None = (p : SetPart) (q : List ℕ) → IsElementPart p → s ≡ p.bytes ++ q → is_lt (sort_order key p b) ≡ false
 
--- Where the elements b and those of s after as many bytes are in the order of a SET OF, t is all of them in that order
-abbrev pub Weaves : List ℕ → List ℕ → List ℕ → Type 0
-Weaves b s t = (us vs : List SetPart) → AreElements (by_octets us) b → AreElements (by_octets vs) (drop (length b) s) → AreElements (by_octets (us ++ vs)) t
+-- Where the elements b and those of s after as many bytes are sorted, t is all of them sorted
+abbrev pub Weaves : SortKey → List ℕ → List ℕ → List ℕ → Type 0
+Weaves key b s t =
+    (us vs : List SetPart) → AreElements (sorted_by key us) b → AreElements (sorted_by key vs) (drop (length b) s) → AreElements (sorted_by key (us ++ vs)) t
 
--- The first k elements of s are in the order of a SET OF in t, and have n bytes
-abbrev pub SortsFirst : ℕ → List ℕ → List ℕ → ℕ → Type 0
-SortsFirst k s t n =
+-- The first k elements of s are sorted in t, and have n bytes
+abbrev pub SortsFirst : SortKey → ℕ → List ℕ → List ℕ → ℕ → Type 0
+SortsFirst key k s t n =
     (ps : List SetPart) (a z : List ℕ) → AreElements ps a → length ps ≡ k → s ≡ a ++ z →
-    (b : List ℕ) × AreElements (by_octets ps) b × (t ≡ b ++ z) × (n ≡ length b)
+    (b : List ℕ) × AreElements (sorted_by key ps) b × (t ≡ b ++ z) × (n ≡ length b)

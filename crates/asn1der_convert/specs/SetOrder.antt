@@ -1,12 +1,14 @@
 -- The order of the elements of a SET or a SET OF (X.690, 10.3 and 11.6).
 use Rattle.std.specs.Prelude.{◌≡◌, ℕ, true, List, [], ◌∷◌, map}
-use Rattle.std.specs.Ordering.{is_lt}
+use Rattle.std.specs.Ordering.{is_lt, ordering_then}
 use Rattle.std.specs.declared.cmp.Ordering.{Ordering}
 use Rattle.yasna_base.specs.Order.{octets_cmp, tag_cmp, in_order}
 use Rattle.yasna_base.specs.Set.{SetPart}
 use Rattle.yasna_base.specs.declared.tag.Tag.{Tag}
 use Rattle.asn1der_convert.specs.declared.set_order.SetOrder.{SetOrder}
 use Rattle.asn1der_convert.specs.declared.set_order.SetOrder.TheVariants.{Tags, Octets}
+use Rattle.asn1der_convert.specs.declared.sorting.SortKey.{SortKey}
+use Rattle.asn1der_convert.specs.declared.sorting.SortKey.TheVariants.{ByTags, ByOctets}
 
 -- an item with its tag and its encoding
 abbrev pub keyed_part : {A : Type 0} → (A → Tag) → (A → List ℕ) → A → SetPart
@@ -34,6 +36,15 @@ InOrder o (p ∷ ps) = (IsSwapped o p ps → ⊥) × InOrder o ps
 -- elements in the order of a SET OF
 abbrev pub by_octets : List SetPart → List SetPart
 by_octets ps = in_order (set_order Octets) ps
+
+-- elements are sorted by octets, or by tags, and those of one tag by octets
+abbrev pub sort_order : SortKey → SetPart → SetPart → Ordering
+sort_order ByTags = λ p q. ordering_then (tag_cmp p.tag q.tag) (octets_cmp p.bytes q.bytes)
+sort_order ByOctets = set_order Octets
+
+-- elements sorted by a key
+abbrev pub sorted_by : SortKey → List SetPart → List SetPart
+sorted_by key ps = in_order (sort_order key) ps
 
 -- the order of elements in a SET is known without a schema: put in the order of a SET OF, they are in that of a SET too
 abbrev pub IsOrderKnown : List SetPart → Type 0

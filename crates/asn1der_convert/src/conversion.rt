@@ -3,13 +3,10 @@
 //! `convert` begins the walk. `convert_contents` goes from element to element, `convert_element` decides by an element's tag how its
 //! contents are read, and `convert_constructed` descends one level. Each appends whole elements in DER to one output. The header of a constructed
 //! element is put before its contents once these are there, so that those of a SET OF are put in order before. The contents of a primitive
-//! element are turned into those in DER by `asn1_contents`.
-ghost use Rattle.std.specs.Prelude.{◌≡◌, ◌≤◌, ◌<◌, ◌+◌, ◌++◌, ◌*◌, ◌-◌, ◌%◌, ◌^◌, ◌∷◌, [], ℕ, List, IfOk, IfErr, OnOk, MatchOption, length};
-ghost use Rattle.asn1_contents.specs.Contents.{HasContents};
-ghost use Rattle.asn1_contents.specs.ContentsType.{type_with};
-ghost use Rattle.yasna_base.specs.Bits.{bits_tag, padded};
-ghost use Rattle.yasna_base.specs.Boolean.{boolean_byte, boolean_tag};
-ghost use Rattle.yasna_base.specs.Canonical.{canonical_element};
+//! element are turned into those in DER by `primitives`.
+ghost use Rattle.std.specs.Prelude.{◌≡◌, ◌≤◌, ℕ, List, IfOk, IfErr, OnOk, MatchOption, length};
+ghost use Rattle.yasna_base.specs.Bits.{bits_tag};
+ghost use Rattle.yasna_base.specs.Boolean.{boolean_tag};
 ghost use Rattle.yasna_base.specs.Grammar.{max_depth};
 ghost use Rattle.yasna_base.specs.Header.{OpensAt, EndsBefore};
 ghost use Rattle.yasna_bytes.specs.Header.{NoEnd};
@@ -20,20 +17,21 @@ ghost use Rattle.yasna_base.specs.Identifier.{BeginsWithTag, identifier};
 ghost use Rattle.yasna_base.specs.Raw.{IsRaw, IsJoining};
 ghost use Rattle.yasna_base.specs.declared.tag.PCBit.TheVariants.{Primitive, Constructed};
 ghost use Rattle.asn1der_convert.specs.Ambiguity.{Encloses, MeetsAt, MeetsTo, AreTheAmbiguities};
-ghost use Rattle.asn1der_convert.specs.Parts.{AppendsElementOf, PartAt, PartsAt};
+ghost use Rattle.asn1der_convert.specs.Parts.{PartAt, PartsAt};
 ghost use Rattle.asn1der_convert.specs.declared.error.ConvertError.TheVariants.{Memory};
-ghost use Rattle.asn1der_convert.specs.WholeBits.{UnusedAndBytes, unused_with, AreWholeBits, WholeBitsAt};
+ghost use Rattle.asn1der_convert.specs.WholeBits.{WholeBitsAt};
 ghost use Rattle.asn1der_convert.specs.Tags.{IsOtherTag, IsOtherPrimitive, IsOtherConstructed, IsStringTag};
 
 use crate::ambiguity::Ambiguities;
 use crate::contents_class::{ContentsClass, class_of, is_constructed_type, is_primitive_type};
-use crate::error::{ConvertError, contents_error, expected_of, offset_of};
+use crate::error::{ConvertError, offset_of};
+use crate::primitives::{
+    append_bit_string, append_bits, append_primitive, append_string, truth_byte, unused_and_bytes,
+};
 use crate::segments::{StringKind, string_error};
 use crate::set_order::put_in_order;
-use crate::writing::{append_contents, append_element, enclose_contents};
+use crate::writing::{append_element, enclose_contents};
 use asn1_contents::contents_type::contents_type;
-use asn1_contents::der_contents::der_contents;
-use asn1_contents::plain::are_plain;
 use std::alloc::{AllocError, Global};
 use yasna_base::bytes::identifier::read_identifier;
 use yasna_base::error::ASN1ErrorKind;
@@ -57,13 +55,6 @@ pub struct Converted {
     pub ambiguities: Ambiguities,
 }
 
-// The byte that represents TRUE or FALSE.
-fn truth_byte(truth: bool) -> u8
-    ensures { result ≡ boolean_byte truth }
-{
-    if truth { 255 } else { 0 }
-}
-
 // Appends a BOOLEAN, whose TRUE is 255 (X.690, 11.1).
 fn convert_boolean<'a>(
     alloc: Global,
@@ -79,51 +70,6 @@ fn convert_boolean<'a>(
     };
     append_element(out, &[1], &[], &[truth_byte(truth)])?;
     Ok(rest)
-}
-
-// The last byte of a BIT STRING, with zeros in this many unused bits.
-fn cleared_byte(last: u8, unused: u8) -> u8
-    requires { unused ≤ 7 }
-    ensures { result ≡ last - last % 2 ^ unused }
-{
-    last - last % (1u8 << unused)
-}
-
-// The count of unused bits in the last byte of a BIT STRING of this many bits.
-fn unused_bits(count: usize) -> u8
-    ensures { result ≡ (8 - count % 8) % 8 }
-{
-    ((8 - count % 8) % 8) as u8
-}
-
-// Clears this many unused bits of a BIT STRING's last byte (X.690, 11.2.1).
-fn clear_unused(bytes: &mut Vec<u8>, unused: u8) -> Result<(), AllocError>
-    requires { unused ≤ 7 }
-    ensures { OnOk result (bytes.new.items ≡ padded unused bytes.old.items) }
-{
-    let Some(last) = bytes.pop() else {
-        return Ok(());
-    };
-    bytes.push(cleared_byte(last, unused))?;
-    Ok(())
-}
-
-// How many bits are unused in a BIT STRING with these contents in BER, and its bytes (X.690, 8.6.2).
-fn unused_and_bytes(contents: &[u8]) -> Option<(u8, &[u8])>
-    ensures { MatchOption result ((b : UnusedAndBytes) → AreWholeBits b contents.now → ⊥) (λ x. AreWholeBits (unused_with x) contents.now) }
-{
-    let Some((unused, bytes)) = contents.split_first() else {
-        return None;
-    };
-    let unused = *unused;
-    if unused >= 8 || bytes.is_empty() && unused != 0 {
-        return None;
-    }
-    // So their bits have a count.
-    if bytes.len() > usize::MAX / 8 {
-        return None;
-    }
-    Some((unused, bytes))
 }
 
 // How many bits are unused in the primitive BIT STRING in BER that begins here, its bytes, and what follows it.
@@ -143,16 +89,6 @@ fn whole_bits(cursor: Cursor<'_>) -> Option<((u8, &[u8]), &[u8])>
     }
 }
 
-// Appends a BIT STRING of these bytes, of which so many bits are unused.
-fn append_bits(out: &mut Vec<u8>, unused: u8, bytes: &[u8]) -> Result<(), AllocError>
-    requires few { unused ≤ 7 }
-    requires none_of_none { bytes.now ≡ [] → unused ≡ 0 }
-    ensures { OnOk result (out.new.items ≡ out.old.items ++ canonical_element Der bits_tag Primitive (unused ∷ padded unused bytes.now)) }
-{
-    append_element(out, &[3], &[unused], bytes)?;
-    clear_unused(out, unused)
-}
-
 // Appends a BIT STRING that may be in segments, in one piece (X.690, 10.2).
 fn convert_bit_segments<'a>(
     alloc: Global,
@@ -169,11 +105,7 @@ fn convert_bit_segments<'a>(
             return Err(string_error(alloc, cursor, TAG_BITSTRING, bits, rejection.kind));
         }
     };
-    let mut contents = string;
-    let unused = unused_bits(count);
-    clear_unused(&mut contents, unused)?;
-    contents.insert(0, unused)?;
-    append_contents(out, &[3], contents)?;
+    append_bit_string(out, &[3], string, count)?;
     Ok(rest)
 }
 
@@ -189,54 +121,8 @@ fn convert_bits<'a>(
     let Some(((unused, bytes), rest)) = whole_bits(cursor) else {
         return convert_bit_segments(alloc, cursor, out);
     };
-    append_bits(out, unused, bytes)?;
+    append_bits(out, &[3], unused, bytes)?;
     Ok(rest)
-}
-
-// Appends the primitive element with this identifier and the contents in DER of these, which are those of an element that begins here.
-fn append_primitive(
-    alloc: Global,
-    cursor: Cursor<'_>,
-    tag: Tag,
-    identifier_bytes: &[u8],
-    contents: &[u8],
-    out: &mut Vec<u8>,
-) -> Result<(), ConvertError>
-    requires { identifier_bytes.now ≡ identifier tag Primitive }
-    ensures bytes { OnOk result (AppendsElementOf Ber tag contents.now out.old.items out.new.items) }
-    ensures rejection { IfErr result (λ e. (e ≡ Memory → ⊥) → (d : List ℕ) → HasContents (type_with tag) Ber d contents.now → ⊥) }
-{
-    let contents_type = contents_type(tag);
-    if are_plain(contents_type, contents) {
-        append_element(out, identifier_bytes, &[], contents)?;
-        return Ok(());
-    }
-    let mut copy = Vec::new(alloc);
-    copy.extend_from_slice(contents)?;
-    let Some(converted) = der_contents(alloc, contents_type, copy)? else {
-        return Err(contents_error(cursor, expected_of(contents_type)));
-    };
-    append_element(out, identifier_bytes, &[], &converted)?;
-    Ok(())
-}
-
-// Appends a string of these octets, which begins here, in DER's form.
-fn append_string(
-    alloc: Global,
-    cursor: Cursor<'_>,
-    tag: Tag,
-    octets: Vec<u8>,
-    out: &mut Vec<u8>,
-) -> Result<(), ConvertError>
-    requires { IsStringTag tag }
-    ensures bytes { OnOk result (AppendsElementOf Ber tag octets.items out.old.items out.new.items) }
-    ensures rejection { IfErr result (λ e. (e ≡ Memory → ⊥) → (d : List ℕ) → HasContents (type_with tag) Ber d octets.items → ⊥) }
-{
-    if are_plain(contents_type(tag), &octets) {
-        append_contents(out, &[tag.tag_number as u8], octets)?;
-        return Ok(());
-    }
-    append_primitive(alloc, cursor, tag, &[tag.tag_number as u8], &octets, out)
 }
 
 // Appends a string of octets that is in segments, in one piece (X.690, 10.2), and in DER's form.
@@ -258,7 +144,15 @@ fn convert_segments<'a>(
             return Err(string_error(alloc, cursor, tag, octets, rejection.kind));
         }
     };
-    match append_string(alloc, cursor, tag, octets, out) {
+    let identifier_bytes = [tag.tag_number as u8];
+    match append_string(
+        alloc,
+        cursor,
+        contents_type(tag),
+        &identifier_bytes,
+        octets,
+        out,
+    ) {
         Ok(()) => Ok(rest),
         Err(error) => Err(error),
     }
@@ -286,7 +180,14 @@ fn convert_octets<'a>(
     let Some((octets, rest)) = whole else {
         return convert_segments(alloc, cursor, tag, out);
     };
-    match append_primitive(alloc, cursor, tag, &[tag.tag_number as u8], octets, out) {
+    match append_primitive(
+        alloc,
+        cursor,
+        contents_type(tag),
+        &[tag.tag_number as u8],
+        octets,
+        out,
+    ) {
         Ok(()) => Ok(rest),
         Err(error) => Err(error),
     }
@@ -322,7 +223,14 @@ fn convert_primitive<'a>(
         // No mode accepts the indefinite form here.
         return Err(ConvertError::at(cursor, ASN1ErrorKind::Invalid));
     };
-    match append_primitive(alloc, cursor, tag, identifier_bytes, opened.contents, out) {
+    match append_primitive(
+        alloc,
+        cursor,
+        contents_type(tag),
+        identifier_bytes,
+        opened.contents,
+        out,
+    ) {
         Ok(()) => Ok(after),
         Err(error) => Err(error),
     }
@@ -496,6 +404,20 @@ fn convert_element<'a>(
             Err(rejection) => Err(ConvertError::at(cursor, rejection.kind)),
         },
     }
+}
+
+/// Appends the elements up to the end of contents, converted from BER to DER, and returns what follows it. Their ambiguities aren't noted.
+pub fn append_elements<'a>(
+    alloc: Global,
+    contents: Cursor<'a>,
+    end: ContentsEnd<'a>,
+    out: &mut Vec<u8>,
+) -> Result<&'a [u8], ConvertError>
+    requires { contents.mode ≡ Ber }
+    ensures { PartsAt contents.entry.levels contents.entry.mode contents.entry.left.now (end_found end.entry) out.old.items out.new.items result }
+{
+    let mut ambiguities = Ambiguities::none();
+    convert_contents(alloc, contents, end, out, &mut ambiguities)
 }
 
 /// Converts elements from BER to DER.

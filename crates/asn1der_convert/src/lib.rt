@@ -5,10 +5,11 @@
 //! | `conversion` | the walk over the elements |
 //! | `contents_class` | how the contents of an element are read, by its tag |
 //! | `elements` | elements in memory, one after the other |
+//! | `primitives` | primitive elements that are written |
 //! | `segments` | the malformed segment of a string |
 //! | `set_order` | the order of a SET or a SET OF |
 //! | `agreement` | whether these two orders of a SET agree |
-//! | `sorting` | elements put in order in their own memory |
+//! | `sorting` | elements sorted in their own memory |
 //! | `writing` | elements and headers that are written |
 //! | `ambiguity` | where the DER encoding depends on a schema |
 //! | `error` | the errors of the conversion |
@@ -16,11 +17,12 @@
 
 mod agreement;
 pub mod ambiguity;
-mod contents_class;
+pub mod contents_class;
 pub mod conversion;
 mod elements;
 pub mod error;
-mod segments;
+pub mod primitives;
+pub mod segments;
 mod set_order;
-mod sorting;
-mod writing;
+pub mod sorting;
+pub mod writing;

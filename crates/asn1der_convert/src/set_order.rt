@@ -4,11 +4,11 @@ ghost use Rattle.std.specs.Ordering.{is_lt};
 ghost use Rattle.yasna_base.specs.Set.{SetPart, set_tag};
 ghost use Rattle.asn1der_convert.specs.Rows.{AreElements, part_of};
 ghost use Rattle.asn1der_convert.specs.Parts.{PutsInOrder};
-ghost use Rattle.asn1der_convert.specs.SetOrder.{set_order, by_octets, InOrder};
+ghost use Rattle.asn1der_convert.specs.SetOrder.{set_order, InOrder};
 
 use crate::agreement::is_order_known;
-use crate::elements::{count_elements, first_element, have_one_tag};
-use crate::sorting::sort_first;
+use crate::elements::{first_element, have_one_tag};
+use crate::sorting::{SortKey, sort_elements};
 use std::alloc::{AllocError, Global};
 use yasna_base::bytes::order::compare_octets;
 use yasna_base::tag::Tag;
@@ -53,19 +53,6 @@ pub fn are_in_order(order: SetOrder, elements: &[u8]) -> bool
     true
 }
 
-// Puts elements in the order of a SET OF.
-fn sort_elements(alloc: Global, elements: &mut [u8]) -> Result<(), AllocError>
-    ensures len { length elements.new ≡ length elements.old }
-    ensures sorted { OnOk result ((ps : List SetPart) → AreElements ps elements.old → AreElements (by_octets ps) elements.new) }
-{
-    let count = count_elements(elements);
-    if count == 0 {
-        return Ok(());
-    }
-    sort_first(alloc, elements, count)?;
-    Ok(())
-}
-
 // Puts elements of several tags in the order of a SET OF, if that is the order of their tags too.
 fn sort_by_both(alloc: Global, elements: &mut [u8]) -> Result<(), AllocError>
     ensures len { length elements.new ≡ length elements.old }
@@ -74,7 +61,7 @@ fn sort_by_both(alloc: Global, elements: &mut [u8]) -> Result<(), AllocError>
     if !is_order_known(alloc, elements)? {
         return Ok(());
     }
-    sort_elements(alloc, elements)
+    sort_elements(alloc, SortKey::ByOctets, elements)
 }
 
 /// Puts the elements within one that has this tag in the order that DER requires.
@@ -91,7 +78,7 @@ pub fn put_in_order(alloc: Global, tag: Tag, elements: &mut [u8]) -> Result<(), 
         return Ok(());
     }
     if have_one_tag(elements) {
-        return sort_elements(alloc, elements);
+        return sort_elements(alloc, SortKey::ByOctets, elements);
     }
     sort_by_both(alloc, elements)
 }

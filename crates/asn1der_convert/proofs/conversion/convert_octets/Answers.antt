@@ -1,19 +1,18 @@
-use Rattle.std.proofs.Common.{refl, subst}
+use Rattle.std.proofs.Common.{refl, sym, subst}
 use Rattle.yasna_base.specs.declared.mode.BERMode.{BERMode}
+use Rattle.yasna_base.specs.declared.mode.BERMode.TheVariants.{Ber}
 use Rattle.asn1_contents.specs.Contents.{HasContents}
 use Rattle.asn1_contents.specs.ContentsType.{type_with}
-use Rattle.asn1der_convert.proofs.Appends.{string_appended, string_identifier}
+use Rattle.asn1_contents.specs.declared.contents_type.ContentsType.{ContentsType}
+use Rattle.asn1der_convert.proofs.Appends.{string_appended}
 use Rattle.asn1der_convert.proofs.Rejections.{no_string, no_string_contents}
 use Rattle.asn1der_convert.proofs.conversion.convert_octets.Goals as goal
-
-pub append_primitive-requires : goal.append_primitive-requires
-append_primitive-requires c = string_identifier c.args.tag c.requires.string
 
 pub returns-in-Ok-append_primitive : goal.returns-in-Ok-append_primitive
 returns-in-Ok-append_primitive c =
     let taken = rw c.in-Some.is at (c.in-Ok.ensures {u = tt}) in
-    string_appended c.args.cursor.levels c.args.cursor.mode c.args.tag c.args.cursor.left.now c.in-Some.rest.now c.in-Some.octets.now c.in-Some.octets.now
-    c.args.out.now.items c.append_primitive.new.out.items c.requires.string taken c.requires.mode refl c.in-Ok-append_primitive.ensures.bytes
+    string_appended c.args.cursor.levels c.args.cursor.mode c.args.tag c.contents_type.result c.args.cursor.left.now c.in-Some.rest.now c.in-Some.octets.now
+    c.in-Some.octets.now c.args.out.now.items c.append_primitive.new.out.items c.requires.string c.contents_type.ensures taken c.requires.mode refl c.in-Ok-append_primitive.ensures.bytes
 
 pub returns-in-Err-append_primitive : goal.returns-in-Err-append_primitive
 returns-in-Err-append_primitive c = λ known.
@@ -21,7 +20,9 @@ returns-in-Err-append_primitive c = λ known.
     let octets = c.in-Some.octets.now in
     no_string_contents c.args.cursor.levels c.args.cursor.mode c.args.tag c.args.cursor.left.now octets c.in-Some.rest.now c.requires.string
     c.requires.begins taken
-    (λ d x. c.in-Err-append_primitive.ensures.rejection known d (subst (λ (m : BERMode). HasContents (type_with c.args.tag) m d octets) c.requires.mode x))
+    (λ d x. c.in-Err-append_primitive.ensures.rejection known d
+    (subst (λ (k : ContentsType). HasContents k Ber d octets) (sym c.contents_type.ensures)
+    (subst (λ (m : BERMode). HasContents (type_with c.args.tag) m d octets) c.requires.mode x)))
 
 pub returns-in-Err : goal.returns-in-Err
 returns-in-Err c = λ known.

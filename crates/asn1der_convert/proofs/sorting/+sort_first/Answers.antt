@@ -16,7 +16,7 @@ returns-clause-sorted t c =
     let half = c.args.count / 2 in
     let all : take (length one - m) (drop m one) ≡ drop m one = between_to_end one m (length one) (omega arith) in
     let within : m ≤ length one = omega (arith, c.in_ok-front.ensures.within, c.in_ok-front.ensures.len) in
-    let second = subst (λ z. SortsFirst (c.args.count - half) z y n) all c.in_ok-back.ensures.sorted in
+    let second = subst (λ z. SortsFirst c.args.key (c.args.count - half) z y n) all c.in_ok-back.ensures.sorted in
     let size = woven_size m n one y x all within c.in_ok-back.ensures.len c.in_ok-back.ensures.within c.in_ok-merge.ensures.len in
-    sorts_both c.args.count half m n c.args.elements.now one u _ y x (omega arith) c.in_ok-front.ensures.sorted second (tail_put m one y) within
+    sorts_both c.args.key c.args.count half m n c.args.elements.now one u _ y x (omega arith) c.in_ok-front.ensures.sorted second (tail_put m one y) within
     c.in_ok-merge.ensures.woven size refl

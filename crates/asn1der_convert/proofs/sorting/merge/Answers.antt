@@ -7,5 +7,5 @@ pub returns-clause-woven : goal.returns-clause-woven
 returns-clause-woven c =
     let e = c.args.elements.now in
     on_ok_weaker c.copy_and_weave-2.result
-    (λ w. turned_weaves e c.rotate_left.new.self c.copy_and_weave-2.new.elements c.args.size (length e - c.args.size) c.requires c.rotate_left.ensures.after refl w)
+    (λ w. turned_weaves c.args.key e c.rotate_left.new.self c.copy_and_weave-2.new.elements c.args.size (length e - c.args.size) c.requires c.rotate_left.ensures.after refl w)
     c.copy_and_weave-2.ensures.woven

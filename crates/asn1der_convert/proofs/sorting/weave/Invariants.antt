@@ -1,7 +1,7 @@
 use Rattle.std.proofs.Common.{◌≡◌, List, length, drop, ◌+◌, ◌-◌, ◌≤◌}
 use Rattle.yasna_base.specs.Set.{SetPart}
 use Rattle.asn1der_convert.specs.Rows.{AreElements}
-use Rattle.asn1der_convert.specs.SetOrder.{by_octets}
+use Rattle.asn1der_convert.specs.SetOrder.{sorted_by}
 use Rattle.asn1der_convert.proofs.Weaving.{Woven}
 use Rattle.asn1der_convert.proofs.sorting.weave.Given as goal
 
@@ -10,8 +10,8 @@ invariant-loop-first l = record {
   room : l.from ≡ l.place + length l.left;
   within : l.from ≤ length l.elements;
   long : length l.elements ≡ length l.initial.elements;
-  woven : (us vs : List SetPart) → AreElements (by_octets us) l.others → AreElements (by_octets vs) (drop (length l.others) l.initial.elements) →
-      Woven us vs l.elements l.left l.place l.from;
+  woven : (us vs : List SetPart) → AreElements (sorted_by l.key us) l.others → AreElements (sorted_by l.key vs) (drop (length l.others) l.initial.elements) →
+      Woven l.key us vs l.elements l.left l.place l.from;
 }
 
 abbrev pub decreases-loop-first : goal.decreases-loop-first

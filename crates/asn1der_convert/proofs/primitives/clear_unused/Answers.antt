@@ -1,7 +1,7 @@
 use Rattle.std.proofs.Common.{◌∷◌, [], ◌++◌, sym, ap, ◌∙◌}
 use Rattle.yasna_base.specs.Bits.{padded}
 use Rattle.asn1der_convert.proofs.Parts.{padded_last}
-use Rattle.asn1der_convert.proofs.conversion.clear_unused.Goals as goal
+use Rattle.asn1der_convert.proofs.primitives.clear_unused.Goals as goal
 
 pub returns : goal.returns
 returns c =
