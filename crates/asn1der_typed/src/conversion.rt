@@ -1,13 +1,17 @@
 //! The elements of an input, one after the other.
 
+ghost use Rattle.std.specs.Prelude.{◌≤◌, OnOk, length};
+ghost use Rattle.asn1der_typed.specs.Appending.{Extends, ExtendsFrom, PutsInOrderOf};
+
 use crate::error::TypedError;
-use crate::values::{Part, Place, make_part, untyped_part, value_part};
+use crate::values::{Place, append_untyped, append_value, identifier_of};
 use asn1der_convert::error::ConvertError;
+use asn1der_convert::sorting::{SortKey, sort_elements};
+use asn1der_convert::writing::enclose_contents;
 use asn1show_schema::schema::Contents;
 use asn1show_schema::{Fields, Schema};
 use asn1show_walk::{Context, Item, Place as WalkPlace, Visitor, WalkError, list_input};
-use std::alloc::Global;
-use yasna_base::bytes::order::compare_octets;
+use std::alloc::{AllocError, Global};
 use yasna_base::error::ASN1ErrorKind;
 use yasna_base::mode::BERMode;
 use yasna_base::tag::PCBit;
@@ -38,6 +42,8 @@ impl Visitor for Silent {
 struct Conversion<'m> {
     alloc: Global,
     fields: Fields<'m>,
+    // The elements in DER so far, without the headers of those that are open.
+    out: Vec<u8>,
 }
 
 // The error of an element that the module doesn't allow there.
@@ -57,38 +63,55 @@ fn too_deep(offset: usize) -> TypedError {
     })
 }
 
-// The constructed element around parts, in the order that DER has for what they are in. `None` has no part under an EXPLICIT tag.
-fn enclosed(
+// Puts elements that begin at a place of the output in the order that DER has for what they are in.
+fn put_in_order(
+    alloc: Global,
+    contents: Contents,
+    start: usize,
+    out: &mut Vec<u8>,
+) -> Result<(), AllocError>
+    requires { start ≤ length out.old.items }
+    ensures stays { OnOk result (ExtendsFrom start out.old.items out.new.items) }
+    ensures order { OnOk result (PutsInOrderOf contents start out.old.items out.new.items) }
+{
+    let bytes = out.as_mut_slice();
+    let elements = &mut bytes[start..];
+    match contents {
+        Contents::SetOf(..) => sort_elements(alloc, SortKey::ByOctets, elements),
+        Contents::InAnyOrder(_) => sort_elements(alloc, SortKey::ByTags, elements),
+        _ => Ok(()),
+    }
+}
+
+// Puts the header of a constructed element before its parts, which begin at a place of the output. One with no part under an EXPLICIT tag is omitted.
+fn enclose(
     alloc: Global,
     place: Place<'_>,
     contents: Contents,
-    parts: Vec<Part>,
-) -> Result<Option<Part>, TypedError> {
-    let mut parts = parts;
+    start: usize,
+    out: &mut Vec<u8>,
+) -> Result<(), AllocError>
+    requires { start ≤ length out.old.items }
+    ensures { OnOk result (ExtendsFrom start out.old.items out.new.items) }
+{
     match contents {
-        Contents::One(_) if parts.is_empty() => return Ok(None),
-        Contents::SetOf(..) => {
-            parts.sort_by(|part, other| compare_octets(&part.bytes, &other.bytes))?
-        }
-        Contents::InAnyOrder(_) => parts.sort_by(|part, other| part.tag.cmp(&other.tag))?,
+        Contents::One(_) if out.len() == start => return Ok(()),
         _ => {}
     }
-    let mut joined = Vec::new(alloc);
-    for part in &parts {
-        joined.extend_from_slice(&part.bytes)?;
-    }
-    let part = make_part(alloc, place.element.tag, PCBit::Constructed, joined)?;
-    Ok(Some(part))
+    put_in_order(alloc, contents, start, out)?;
+    enclose_contents(out, start, identifier_of(place))
 }
 
-// A constructed element.
+// Appends a constructed element.
 #[cycle(typed)]
 fn convert_constructed(
     state: &mut Conversion<'_>,
     place: Place<'_>,
     contents: Contents,
     levels: u8,
-) -> Result<Option<Part>, TypedError> {
+) -> Result<(), TypedError>
+    ensures { OnOk result (Extends state.old.out.items state.new.out.items) }
+{
     let element = place.element;
     if levels == 0 {
         return Err(too_deep(place.offset));
@@ -97,19 +120,23 @@ fn convert_constructed(
         return Err(not_in_module(state, place.offset));
     }
     let header = element.bytes.len().saturating_sub(element.payload.len());
-    let start = place.offset.saturating_add(header);
+    let offset = place.offset.saturating_add(header);
     let depth = place.depth.saturating_add(1);
-    let parts = convert_contents(state, element.payload, start, depth, levels - 1)?;
-    enclosed(state.alloc, place, contents, parts)
+    let start = state.out.len();
+    convert_contents(state, element.payload, offset, depth, levels - 1)?;
+    enclose(state.alloc, place, contents, start, &mut state.out)?;
+    Ok(())
 }
 
-// An element. `None` is a part with the value of its DEFAULT.
+// Appends an element, or nothing for a part with the value of its DEFAULT.
 #[cycle(typed)]
 fn convert_element(
     state: &mut Conversion<'_>,
     place: Place<'_>,
     levels: u8,
-) -> Result<Option<Part>, TypedError> {
+) -> Result<(), TypedError>
+    ensures { OnOk result (Extends state.old.out.items state.new.out.items) }
+{
     let element = place.element;
     let label = state
         .fields
@@ -118,13 +145,25 @@ fn convert_element(
         return Err(not_in_module(state, place.offset));
     }
     match label.contents {
-        Contents::Any | Contents::Selected(_) => Ok(Some(untyped_part(state.alloc, place)?)),
-        Contents::Value(value) => value_part(state.alloc, place, value, label.default_number),
+        Contents::Any | Contents::Selected(_) => {
+            append_untyped(state.alloc, place, &mut state.out)?;
+            Ok(())
+        }
+        Contents::Value(value) => {
+            append_value(
+                state.alloc,
+                place,
+                value,
+                label.default_number,
+                &mut state.out,
+            )?;
+            Ok(())
+        }
         contents => convert_constructed(state, place, contents, levels),
     }
 }
 
-// The elements in contents that begin at an offset, up to their end.
+// Appends the elements in contents that begin at an offset, up to their end.
 #[cycle(typed)]
 fn convert_contents(
     state: &mut Conversion<'_>,
@@ -132,26 +171,25 @@ fn convert_contents(
     offset: usize,
     depth: u8,
     levels: u8,
-) -> Result<Vec<Part>, TypedError> {
-    let mut parts = Vec::new(state.alloc);
+) -> Result<(), TypedError>
+    ensures { OnOk result (Extends state.old.out.items state.new.out.items) }
+{
     let mut left = contents;
     let mut offset = offset;
     for _ in 0..=contents.len() {
         let Ok((element, rest)) = raw_element(Cursor::start(left, BERMode::Ber)) else {
-            return Ok(parts);
+            return Ok(());
         };
         let place = Place {
             offset,
             depth,
             element,
         };
-        if let Some(part) = convert_element(state, place, levels)? {
-            parts.push(part)?;
-        }
+        convert_element(state, place, levels)?;
         offset = offset.saturating_add(element.bytes.len());
         left = rest;
     }
-    Ok(parts)
+    Ok(())
 }
 
 /// Converts values of the type of a schema, one after the other, from BER to DER.
@@ -164,11 +202,9 @@ pub fn convert_by_type(
     let mut state = Conversion {
         alloc,
         fields: Fields::new(alloc, schema),
+        out: Vec::with_capacity(alloc, input.len())?,
     };
-    let parts = convert_contents(&mut state, input, 0, 0, LEVELS)?;
-    let mut bytes = Vec::new(alloc);
-    for part in &parts {
-        bytes.extend_from_slice(&part.bytes)?;
-    }
-    Ok(bytes)
+    convert_contents(&mut state, input, 0, 0, LEVELS)?;
+    let Conversion { out, .. } = state;
+    Ok(out)
 }

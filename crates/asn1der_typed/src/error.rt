@@ -57,6 +57,12 @@ impl<T: Drop> From<AllocFailed<T>> for TypedError {
     }
 }
 
+impl From<ConvertError> for TypedError {
+    fn from(error: ConvertError) -> TypedError {
+        TypedError::Convert(error)
+    }
+}
+
 impl From<WalkError> for TypedError {
     fn from(error: WalkError) -> TypedError {
         TypedError::Walk(error)

@@ -8,9 +8,11 @@
 //! |---|---|
 //! | `conversion` | the elements, one after the other |
 //! | `values` | elements in which no others are |
+//! | `bits` | values of BIT STRING |
 //! | `error` | the errors of the conversion |
 #![tactic(auto)]
 
+mod bits;
 mod conversion;
 mod error;
 mod values;

@@ -1,19 +1,44 @@
-//! Elements in which no others are, or others of which the module says nothing.
-ghost use Rattle.std.specs.Prelude.{◌≡◌, false, is_some, true, IfOk, IfSome, None};
+//! Elements in which no others are, or others of which the module says nothing. Each is appended to the output.
+ghost use Rattle.std.specs.Prelude.{◌≡◌, [], IfOk, OnOk};
+ghost use Rattle.yasna_base.specs.Boolean.{boolean_tag};
+ghost use Rattle.yasna_base.specs.Grammar.{max_depth};
+ghost use Rattle.yasna_base.specs.Header.{definite_end};
+ghost use Rattle.yasna_base.specs.Identifier.{identifier};
+ghost use Rattle.yasna_base.specs.declared.tag.Tag.{Tag};
+ghost use Rattle.yasna_base.specs.declared.mode.BERMode.TheVariants.{Ber};
+ghost use Rattle.yasna_base.specs.declared.tag.PCBit.TheVariants.{Primitive, Constructed};
+ghost use Rattle.asn1der_convert.specs.Parts.{AppendsParts};
+ghost use Rattle.asn1der_convert.specs.Tags.{IsStringTag};
+ghost use Rattle.asn1der_typed.specs.Appending.{
+  AppendsUnder,
+  AppendsAround,
+  AppendsElement,
+  AppendsSameTag,
+  AppendsValue,
+  universal_tag,
+};
 
-use crate::error::TypedError;
-use asn1der_convert::conversion::convert;
+use crate::bits::{append_bit_segments, append_whole_bits};
+use asn1_contents::contents_type::contents_type;
+use asn1der_convert::contents_class::{
+    ContentsClass, class_of, is_constructed_type, is_primitive_type,
+};
+use asn1der_convert::conversion::append_elements;
 use asn1der_convert::error::ConvertError;
+use asn1der_convert::primitives::{append_primitive, append_string, truth_byte};
+use asn1der_convert::segments::{StringKind, string_error};
+use asn1der_convert::writing::{append_element, enclose_contents};
 use asn1show_schema::has_number;
 use asn1show_schema::schema::{Number, ValueType};
-use std::alloc::Global;
-use yasna::encode_der;
+use std::alloc::{AllocError, Global};
 use yasna_base::bytes::identifier::read_identifier;
+use yasna_base::error::ASN1ErrorKind;
 use yasna_base::mode::BERMode;
-use yasna_base::models::TaggedDerValue;
-use yasna_base::tag::{PCBit, Tag};
+use yasna_base::tag::{PCBit, Tag, TagClass};
 use yasna_bytes::bytes::cursor::Cursor;
-use yasna_bytes::bytes::walk::{RawElement, raw_element};
+use yasna_bytes::bytes::header::{ContentsEnd, open, read_primitive_contents};
+use yasna_bytes::bytes::segments::octet_string;
+use yasna_bytes::bytes::walk::{RawElement, prefix_before, raw_element};
 
 /// An element of the input, and its place in it.
 #[derive(Clone, Copy)]
@@ -26,159 +51,232 @@ pub struct Place<'a> {
     pub element: RawElement<'a>,
 }
 
-/// An element in DER.
-#[derive(Drop)]
-pub struct Part {
-    /// Its tag.
-    pub tag: Tag,
-    /// All its bytes.
-    pub bytes: Vec<u8>,
-}
-
-/// The element in DER with this tag and these contents.
-pub fn make_part(alloc: Global, tag: Tag, bit: PCBit, contents: Vec<u8>) -> Result<Part, TypedError>
-    ensures { IfOk result (λ p. p.tag ≡ tag) }
+// Where an element begins.
+fn cursor_of(place: Place<'_>) -> Cursor<'_>
+    ensures left { result.left.now ≡ place.entry.element.bytes.now }
+    ensures mode { result.mode ≡ Ber }
+    ensures levels { result.levels ≡ max_depth }
 {
-    let value = TaggedDerValue::from_tag_pc_and_bytes(tag, bit, contents);
-    match encode_der(alloc, &value) {
-        Ok(bytes) => Ok(Part { tag, bytes }),
-        Err(_) => Err(TypedError::Convert(ConvertError::Memory)),
-    }
+    let bytes = place.element.bytes;
+    let end = place.offset.saturating_add(bytes.len());
+    Cursor::start(bytes, BERMode::Ber).for_element(bytes, end)
 }
 
-// The error of bytes that begin at an offset, and from the second one on at another one.
-fn located_at(error: ConvertError, start: usize, second: usize) -> TypedError {
-    TypedError::Convert(match error {
-        ConvertError::Malformed {
-            offset,
-            kind,
-            expected,
-        } => ConvertError::Malformed {
-            offset: match offset.checked_sub(1) {
-                Some(after) => second.saturating_add(after),
-                None => start,
-            },
-            kind,
-            expected,
-        },
-        ConvertError::Memory => ConvertError::Memory,
-    })
-}
-
-/// An element of which the module says nothing, converted by its tags alone.
-pub fn untyped_part(alloc: Global, place: Place<'_>) -> Result<Part, TypedError>
-    ensures { IfOk result (λ p. p.tag ≡ place.entry.element.tag) }
-{
-    let (offset, element) = (place.offset, place.element);
-    match convert(alloc, element.bytes) {
-        Ok(converted) => Ok(Part {
-            tag: element.tag,
-            bytes: converted.bytes,
-        }),
-        Err(error) => Err(located_at(error, offset, offset.saturating_add(1))),
-    }
-}
-
-// The bytes of an element after its identifier.
-fn after_identifier(bytes: &[u8]) -> &[u8] {
+/// The identifier of an element.
+pub fn identifier_of(place: Place<'_>) -> &[u8] {
+    let bytes = place.element.bytes;
     match read_identifier(bytes) {
-        Ok((_, _, rest)) => rest,
-        Err(_) => bytes,
+        Ok((_tag, _bit, trailing)) => prefix_before(bytes, trailing),
+        Err(_) => &[],
     }
 }
 
-// An element with the tag of a UNIVERSAL type below 31 in place of its own.
-fn with_universal_tag(
-    alloc: Global,
-    number: u64,
-    element: RawElement<'_>,
-) -> Result<Vec<u8>, TypedError> {
-    let identifier = (number % 31) as u8;
-    let mut bytes = Vec::new(alloc);
-    bytes.push(match element.bit {
-        PCBit::Primitive => identifier,
-        PCBit::Constructed => identifier + 32,
-    })?;
-    bytes.extend_from_slice(after_identifier(element.bytes))?;
-    Ok(bytes)
+// The UNIVERSAL tag of a type.
+fn tag_of(value: ValueType) -> Tag
+    ensures { result ≡ universal_tag value }
+{
+    Tag {
+        tag_class: TagClass::Universal,
+        tag_number: value.universal_number(),
+    }
 }
 
-// An element in DER, with the tag of its UNIVERSAL type.
-fn universal_element(
+// The identifier of a primitive element, by that of a constructed one with the same tag.
+fn primitive_identifier(alloc: Global, identifier_bytes: &[u8]) -> Result<Vec<u8>, AllocError>
+    ensures { IfOk result (λ i. (t : Tag) → identifier_bytes.now ≡ identifier t Constructed → i.items ≡ identifier t Primitive) }
+{
+    let mut primitive = Vec::new(alloc);
+    let Some((first, others)) = identifier_bytes.split_first() else {
+        return Ok(primitive);
+    };
+    primitive.push(*first % 32 + *first / 64 * 64)?;
+    primitive.extend_from_slice(others)?;
+    Ok(primitive)
+}
+
+// Appends a BOOLEAN of these contents under an identifier (X.690, 8.2 and 11.1).
+fn append_boolean(
+    cursor: Cursor<'_>,
+    identifier_bytes: &[u8],
+    contents: &[u8],
+    out: &mut Vec<u8>,
+) -> Result<(), ConvertError>
+    ensures { OnOk result (AppendsUnder boolean_tag identifier_bytes.now out.old.items out.new.items) }
+{
+    let [octet] = contents else {
+        return Err(ConvertError::at(cursor, ASN1ErrorKind::Invalid));
+    };
+    append_element(out, identifier_bytes, &[], &[truth_byte(*octet != 0)])?;
+    Ok(())
+}
+
+// Appends a value whose element is primitive, with the tag and the identifier.
+fn append_whole(
+    alloc: Global,
+    cursor: Cursor<'_>,
+    tag: Tag,
+    value: ValueType,
+    identifier_bytes: &[u8],
+    out: &mut Vec<u8>,
+) -> Result<(), ConvertError>
+    ensures { OnOk result (AppendsUnder (universal_tag value) identifier_bytes.now out.old.items out.new.items) }
+{
+    let contents = match read_primitive_contents(cursor, tag) {
+        Ok((contents, _rest)) => contents,
+        Err(rejection) => return Err(ConvertError::at(cursor, rejection.kind)),
+    };
+    let own = tag_of(value);
+    if is_constructed_type(own) {
+        return Err(ConvertError::at(cursor, ASN1ErrorKind::Invalid));
+    }
+    match class_of(own) {
+        ContentsClass::Boolean => append_boolean(cursor, identifier_bytes, contents, out),
+        ContentsClass::Bits => append_whole_bits(cursor, value, identifier_bytes, contents, out),
+        _ => append_primitive(
+            alloc,
+            cursor,
+            contents_type(own),
+            identifier_bytes,
+            contents,
+            out,
+        ),
+    }
+}
+
+// Appends a string of octets in segments under an identifier, in one piece (X.690, 10.2). It has the tag, and begins at the cursor.
+fn append_octet_segments(
+    alloc: Global,
+    cursor: Cursor<'_>,
+    tag: Tag,
+    value: ValueType,
+    identifier_bytes: &[u8],
+    out: &mut Vec<u8>,
+) -> Result<(), ConvertError>
+    requires { IsStringTag (universal_tag value) }
+    ensures { OnOk result (AppendsUnder (universal_tag value) identifier_bytes.now out.old.items out.new.items) }
+{
+    match octet_string(alloc, cursor, tag) {
+        Ok((octets, _rest)) => {
+            let own = contents_type(tag_of(value));
+            append_string(alloc, cursor, own, identifier_bytes, octets, out)
+        }
+        Err(rejection) => {
+            Err(string_error(alloc, cursor, tag, StringKind::Octets, rejection.kind))
+        }
+    }
+}
+
+// Appends an element with the tag and the identifier, around elements of which the module says nothing.
+fn append_parts(
+    alloc: Global,
+    cursor: Cursor<'_>,
+    tag: Tag,
+    identifier_bytes: &[u8],
+    out: &mut Vec<u8>,
+) -> Result<(), ConvertError>
+    requires mode { cursor.mode ≡ Ber }
+    requires levels { cursor.levels ≡ max_depth }
+    ensures { OnOk result (AppendsAround identifier_bytes.now out.old.items out.new.items) }
+{
+    let opened = match open(cursor, tag) {
+        Ok(opened) => opened,
+        Err(rejection) => return Err(ConvertError::at(cursor, rejection.kind)),
+    };
+    let start = out.len();
+    append_elements(alloc, cursor.inside(&opened), opened.end, out)?;
+    enclose_contents(out, start, identifier_bytes)?;
+    Ok(())
+}
+
+// Appends a value whose element is constructed, with the tag and the identifier.
+fn append_constructed(
+    alloc: Global,
+    cursor: Cursor<'_>,
+    tag: Tag,
+    value: ValueType,
+    identifier_bytes: &[u8],
+    out: &mut Vec<u8>,
+) -> Result<(), ConvertError>
+    requires mode { cursor.mode ≡ Ber }
+    requires levels { cursor.levels ≡ max_depth }
+    requires bytes { identifier_bytes.now ≡ identifier tag Constructed }
+    ensures { OnOk result (AppendsElement (universal_tag value) tag out.old.items out.new.items) }
+{
+    let own = tag_of(value);
+    if is_primitive_type(own) {
+        return Err(ConvertError::at(cursor, ASN1ErrorKind::Invalid));
+    }
+    let primitive = primitive_identifier(alloc, identifier_bytes)?;
+    match class_of(own) {
+        ContentsClass::Bits => append_bit_segments(alloc, cursor, tag, value, &primitive, out),
+        ContentsClass::Octets => append_octet_segments(alloc, cursor, tag, value, &primitive, out),
+        ContentsClass::Other => append_parts(alloc, cursor, tag, identifier_bytes, out),
+        // No type has the first, and the second has no constructed element.
+        ContentsClass::EndOfContents | ContentsClass::Boolean => {
+            Err(ConvertError::at(cursor, ASN1ErrorKind::Invalid))
+        }
+    }
+}
+
+// Appends the value of a type that begins at the cursor, whatever its tag is.
+fn append_typed(
+    alloc: Global,
+    cursor: Cursor<'_>,
+    value: ValueType,
+    out: &mut Vec<u8>,
+) -> Result<(), ConvertError>
+    requires mode { cursor.mode ≡ Ber }
+    requires levels { cursor.levels ≡ max_depth }
+    ensures { OnOk result (AppendsSameTag (universal_tag value) cursor.entry.left.now out.old.items out.new.items) }
+{
+    let (tag, bit, trailing) = match read_identifier(cursor.left) {
+        Ok(found) => found,
+        Err(kind) => return Err(ConvertError::at(cursor, kind)),
+    };
+    let identifier_bytes = prefix_before(cursor.left, trailing);
+    match bit {
+        PCBit::Primitive => append_whole(alloc, cursor, tag, value, identifier_bytes, out),
+        PCBit::Constructed => append_constructed(alloc, cursor, tag, value, identifier_bytes, out),
+    }
+}
+
+// Whether an element in DER has the number that its part has if it is absent.
+fn has_default(value: ValueType, default: Number, element: &[u8]) -> bool {
+    match raw_element(Cursor::start(element, BERMode::Der)) {
+        Ok((element, _rest)) => has_number(value, element.payload, default),
+        Err(_) => false,
+    }
+}
+
+/// Appends an element of which the module says nothing, converted by its tags alone.
+pub fn append_untyped(
     alloc: Global,
     place: Place<'_>,
-    value: ValueType,
-) -> Result<Vec<u8>, TypedError> {
-    let number = value.universal_number();
-    let tagged = with_universal_tag(alloc, number, place.element)?;
-    let bytes = place.element.bytes;
-    let identifier = bytes.len().saturating_sub(after_identifier(bytes).len());
-    match convert(alloc, tagged.as_slice()) {
-        Ok(converted) => Ok(converted.bytes),
-        Err(error) => Err(located_at(error, place.offset, place.offset.saturating_add(identifier))),
-    }
-}
-
-// How many of octets there are without the zeros at their end.
-fn least_len(octets: &[u8]) -> usize {
-    match octets.iter().rposition(|octet| *octet != 0) {
-        Some(index) => index.saturating_add(1),
-        None => 0,
-    }
-}
-
-// The contents of a BIT STRING without the zero bits at its end.
-fn least_bits(alloc: Global, contents: &[u8]) -> Result<Vec<u8>, TypedError> {
-    let octets = contents.get(1..).unwrap_or(&[]);
-    let shortest = octets.get(..least_len(octets)).unwrap_or(octets);
-    let unused = match shortest.last() {
-        Some(last) => last.trailing_zeros() as u8,
-        None => 0,
-    };
-    let mut least = Vec::new(alloc);
-    least.push(unused)?;
-    least.extend_from_slice(shortest)?;
-    Ok(least)
-}
-
-// A copy of contents, without the zero bits at the end of named bits.
-fn least_contents(alloc: Global, value: ValueType, contents: &[u8]) -> Result<Vec<u8>, TypedError> {
-    if let ValueType::NamedBits(_) = value {
-        return least_bits(alloc, contents);
-    }
-    let mut copy = Vec::new(alloc);
-    copy.extend_from_slice(contents)?;
-    Ok(copy)
-}
-
-// Whether contents are those of the value that a part has if it is absent.
-fn is_omitted(value: ValueType, default: Option<Number>, contents: &[u8]) -> bool
-    ensures { default ≡ None → result ≡ false }
+    out: &mut Vec<u8>,
+) -> Result<(), ConvertError>
+    ensures { OnOk result (AppendsParts max_depth Ber place.entry.element.bytes.now (definite_end []) [] out.old.items out.new.items) }
 {
-    match default {
-        Some(number) => has_number(value, contents, number),
-        None => false,
-    }
+    let end = ContentsEnd::Definite(&[]);
+    append_elements(alloc, cursor_of(place), end, out)?;
+    Ok(())
 }
 
-/// A value of a type, or `None` if it is that which its part has if it is absent.
-pub fn value_part(
+/// Appends a value of a type, or nothing if it is the number that its part has if it is absent.
+pub fn append_value(
     alloc: Global,
     place: Place<'_>,
     value: ValueType,
     default: Option<Number>,
-) -> Result<Option<Part>, TypedError>
-    ensures tag { IfOk result (λ written. IfSome written (λ p. p.tag ≡ place.entry.element.tag)) }
-    ensures omitted { default ≡ None → IfOk result (λ written. is_some written ≡ true) }
+    out: &mut Vec<u8>,
+) -> Result<(), ConvertError>
+    ensures { OnOk result (AppendsValue default (universal_tag value) place.entry.element.bytes.now out.old.items out.new.items) }
 {
-    let converted = universal_element(alloc, place, value)?;
-    let Ok((element, _)) = raw_element(Cursor::start(converted.as_slice(), BERMode::Der)) else {
-        return Ok(Some(untyped_part(alloc, place)?));
-    };
-    if is_omitted(value, default, element.payload) {
-        return Ok(None);
+    let start = out.len();
+    append_typed(alloc, cursor_of(place), value, out)?;
+    if let Some(number) = default {
+        if has_default(value, number, &out.as_slice()[start..]) {
+            out.truncate(start);
+        }
     }
-    let contents = least_contents(alloc, value, element.payload)?;
-    let part = make_part(alloc, place.element.tag, element.bit, contents)?;
-    Ok(Some(part))
+    Ok(())
 }

@@ -1,0 +1,121 @@
+//! Values of BIT STRING. The zeros at the end of named bits mean nothing, so DER has none (X.690, 11.2.2).
+ghost use Rattle.std.specs.Prelude.{OnOk};
+ghost use Rattle.yasna_base.specs.Bits.{bits_tag};
+ghost use Rattle.asn1der_typed.specs.Appending.{AppendsUnder};
+
+use asn1der_convert::error::ConvertError;
+use asn1der_convert::primitives::{append_bit_string, append_bits, unused_and_bytes, unused_bits};
+use asn1der_convert::segments::{StringKind, string_error};
+use asn1show_schema::schema::ValueType;
+use std::alloc::{AllocError, Global};
+use yasna_base::error::ASN1ErrorKind;
+use yasna_base::tag::Tag;
+use yasna_bytes::bytes::cursor::Cursor;
+use yasna_bytes::bytes::segments::bit_string;
+
+// How many octets this many bits take.
+fn octets_of(count: usize) -> usize {
+    count.div_ceil(8)
+}
+
+// How many bits there are up to the last one of octets.
+fn ones_of(octets: &[u8]) -> usize {
+    match octets.iter().rposition(|octet| *octet != 0) {
+        Some(index) => {
+            let zeros = octets[index].trailing_zeros() as usize;
+            index
+                .saturating_add(1)
+                .saturating_mul(8)
+                .saturating_sub(zeros)
+        }
+        None => 0,
+    }
+}
+
+// How many of the first bits of octets there are without the zeros at their end.
+fn named_count(octets: &[u8], count: usize) -> usize {
+    let used = octets.get(..octets_of(count)).unwrap_or(octets);
+    let Some((last, before)) = used.split_last() else {
+        return 0;
+    };
+    let unused = used.len().saturating_mul(8).saturating_sub(count) % 8;
+    let bits = last >> unused;
+    if bits == 0 {
+        return ones_of(before);
+    }
+    count.saturating_sub(bits.trailing_zeros() as usize)
+}
+
+// How many of the first bits of octets DER has of a value of this type.
+fn der_count(value: ValueType, octets: &[u8], count: usize) -> usize {
+    match value {
+        ValueType::NamedBits(_) => named_count(octets, count),
+        _ => count,
+    }
+}
+
+// Appends the first bits of octets under an identifier.
+fn append_first_bits(
+    identifier_bytes: &[u8],
+    octets: &[u8],
+    count: usize,
+    out: &mut Vec<u8>,
+) -> Result<(), AllocError>
+    ensures { OnOk result (AppendsUnder bits_tag identifier_bytes.now out.old.items out.new.items) }
+{
+    let first = octets.get(..octets_of(count)).unwrap_or(octets);
+    if first.is_empty() {
+        return append_bits(out, identifier_bytes, 0, first);
+    }
+    append_bits(out, identifier_bytes, unused_bits(count), first)
+}
+
+/// Appends a BIT STRING of these contents under an identifier.
+pub fn append_whole_bits(
+    cursor: Cursor<'_>,
+    value: ValueType,
+    identifier_bytes: &[u8],
+    contents: &[u8],
+    out: &mut Vec<u8>,
+) -> Result<(), ConvertError>
+    ensures { OnOk result (AppendsUnder bits_tag identifier_bytes.now out.old.items out.new.items) }
+{
+    let Some((unused, octets)) = unused_and_bytes(contents) else {
+        return Err(ConvertError::at(cursor, ASN1ErrorKind::Invalid));
+    };
+    let count = octets
+        .len()
+        .saturating_mul(8)
+        .saturating_sub(usize::from(unused));
+    append_first_bits(
+        identifier_bytes,
+        octets,
+        der_count(value, octets, count),
+        out,
+    )?;
+    Ok(())
+}
+
+/// Appends a BIT STRING in segments under an identifier, in one piece (X.690, 10.2). It has the tag, and begins at the cursor.
+pub fn append_bit_segments(
+    alloc: Global,
+    cursor: Cursor<'_>,
+    tag: Tag,
+    value: ValueType,
+    identifier_bytes: &[u8],
+    out: &mut Vec<u8>,
+) -> Result<(), ConvertError>
+    ensures { OnOk result (AppendsUnder bits_tag identifier_bytes.now out.old.items out.new.items) }
+{
+    let ((octets, all), _rest) = match bit_string(alloc, cursor, tag) {
+        Ok(taken) => taken,
+        Err(rejection) => {
+            return Err(string_error(alloc, cursor, tag, StringKind::Bits, rejection.kind));
+        }
+    };
+    let count = der_count(value, &octets, all);
+    let mut first = octets;
+    first.truncate(octets_of(count));
+    append_bit_string(out, identifier_bytes, first, count)?;
+    Ok(())
+}
