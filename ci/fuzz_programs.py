@@ -77,11 +77,16 @@ class Runs:
     def fail(self, name, what):
         self.errors.append(f"seed {self.seeds.get(name, '?')}: {what}")
 
-    def run(self, words):
-        """What a program writes on its two outputs. Its status has to be 0 or 1."""
+    def ended(self, words):
+        """A program's run to its end. Its status has to be 0 or 1."""
         ran = subprocess.run([program(words[0]), *words[1:]], cwd=self.folder, stdin=subprocess.DEVNULL, capture_output=True)
         if ran.returncode not in (0, 1):
             self.errors.append(f"seeds {sorted(self.seeds.values())[:1]} ..: {words[:3]} ended with status {ran.returncode}: {ran.stderr[-200:]}")
+        return ran
+
+    def run(self, words):
+        """What a program writes on its two outputs."""
+        ran = self.ended(words)
         return ran.stdout, ran.stderr.decode(errors="replace")
 
 
@@ -198,9 +203,10 @@ def changed_module(random, sources):
 
 def check_module(runs, random, sources):
     (runs.folder / "module.asn1").write_bytes(changed_module(random, sources))
-    wrote, said = runs.run(["asn1compile", "--list", "module.asn1"])
-    if not wrote and not said:
-        runs.fail("module.asn1", "asn1compile says nothing of a module")
+    ran = runs.ended(["asn1compile", "--list", "module.asn1"])
+    # (a module without types lists nothing)
+    if ran.returncode == 1 and not ran.stderr:
+        runs.fail("module.asn1", "asn1compile rejects a module, and doesn't say why")
 
 
 def check_batch(seeds, known, sources):
