@@ -61,3 +61,22 @@ sent_in OcspRequest = Der
 sent_in OcspResponse = Der
 sent_in TimeStampReq = Der
 sent_in TimeStampResp = Der
+
+-- of one statement for each type, in the order of `MessageType`, that of this type
+abbrev pub ForType : MessageType → Type 0 → Type 0 → Type 0 → Type 0 → Type 0 → Type 0 → Type 0 → Type 0 → Type 0 → Type 0 → Type 0 → Type 0 → Type 0 → Type 0 → Type 0 → Type 0 → Type 0
+ForType Certificate certificate list request public private rsa_public rsa_private ec_private cms snmp1 snmp2 ldap ocsp_request ocsp_response tsp_request tsp_response = certificate
+ForType CertificateList certificate list request public private rsa_public rsa_private ec_private cms snmp1 snmp2 ldap ocsp_request ocsp_response tsp_request tsp_response = list
+ForType CertificationRequest certificate list request public private rsa_public rsa_private ec_private cms snmp1 snmp2 ldap ocsp_request ocsp_response tsp_request tsp_response = request
+ForType SubjectPublicKeyInfo certificate list request public private rsa_public rsa_private ec_private cms snmp1 snmp2 ldap ocsp_request ocsp_response tsp_request tsp_response = public
+ForType OneAsymmetricKey certificate list request public private rsa_public rsa_private ec_private cms snmp1 snmp2 ldap ocsp_request ocsp_response tsp_request tsp_response = private
+ForType RsaPublicKey certificate list request public private rsa_public rsa_private ec_private cms snmp1 snmp2 ldap ocsp_request ocsp_response tsp_request tsp_response = rsa_public
+ForType RsaPrivateKey certificate list request public private rsa_public rsa_private ec_private cms snmp1 snmp2 ldap ocsp_request ocsp_response tsp_request tsp_response = rsa_private
+ForType EcPrivateKey certificate list request public private rsa_public rsa_private ec_private cms snmp1 snmp2 ldap ocsp_request ocsp_response tsp_request tsp_response = ec_private
+ForType ContentInfo certificate list request public private rsa_public rsa_private ec_private cms snmp1 snmp2 ldap ocsp_request ocsp_response tsp_request tsp_response = cms
+ForType SnmpV1 certificate list request public private rsa_public rsa_private ec_private cms snmp1 snmp2 ldap ocsp_request ocsp_response tsp_request tsp_response = snmp1
+ForType SnmpV2c certificate list request public private rsa_public rsa_private ec_private cms snmp1 snmp2 ldap ocsp_request ocsp_response tsp_request tsp_response = snmp2
+ForType LdapMessage certificate list request public private rsa_public rsa_private ec_private cms snmp1 snmp2 ldap ocsp_request ocsp_response tsp_request tsp_response = ldap
+ForType OcspRequest certificate list request public private rsa_public rsa_private ec_private cms snmp1 snmp2 ldap ocsp_request ocsp_response tsp_request tsp_response = ocsp_request
+ForType OcspResponse certificate list request public private rsa_public rsa_private ec_private cms snmp1 snmp2 ldap ocsp_request ocsp_response tsp_request tsp_response = ocsp_response
+ForType TimeStampReq certificate list request public private rsa_public rsa_private ec_private cms snmp1 snmp2 ldap ocsp_request ocsp_response tsp_request tsp_response = tsp_request
+ForType TimeStampResp certificate list request public private rsa_public rsa_private ec_private cms snmp1 snmp2 ldap ocsp_request ocsp_response tsp_request tsp_response = tsp_response

@@ -1,7 +1,7 @@
 //! The types of messages, and how each is checked and encoded.
 ghost use Rattle.std.specs.Prelude.{◌≡◌, None, IfOk, IsSomeAnd, MatchOption};
 ghost use Rattle.yasna.proofs.Laws.{can_be_written};
-ghost use Rattle.asn1check.specs.Kinds.{kind_word, sent_in, IsLabel};
+ghost use Rattle.asn1check.specs.Kinds.{kind_word, sent_in, IsLabel, ForType};
 ghost use Rattle.asn1check.specs.Rewriting.{Rewritten};
 ghost use Rattle.asn1check.specs.Messages.{AllChecked, Reencoded};
 ghost use Rattle.asn1check.specs.declared.message_type.MessageType.{MessageType};
@@ -129,24 +129,23 @@ impl MessageType {
     ///
     /// An error is one of the bytes, of which a piece is no such message, or `OutOfMemory`.
     pub fn checked(self, alloc: Global, mode: BERMode, bytes: &[u8]) -> ASN1Result<usize>
-        ensures certificate { self ≡ MessageType.Certificate → AllChecked ⟦<Encoded<Certificate> as BERDecodable>⟧.encodes mode bytes.now result }
-        ensures certificate_list { self ≡ MessageType.CertificateList → AllChecked ⟦<Encoded<CertificateList> as BERDecodable>⟧.encodes mode bytes.now result }
-        ensures certification_request { self ≡ MessageType.CertificationRequest →
-            AllChecked ⟦<Encoded<CertificationRequest> as BERDecodable>⟧.encodes mode bytes.now result }
-        ensures public_key { self ≡ MessageType.SubjectPublicKeyInfo →
-            AllChecked ⟦<Encoded<SubjectPublicKeyInfo> as BERDecodable>⟧.encodes mode bytes.now result }
-        ensures private_key { self ≡ MessageType.OneAsymmetricKey → AllChecked ⟦<Encoded<OneAsymmetricKey> as BERDecodable>⟧.encodes mode bytes.now result }
-        ensures rsa_public_key { self ≡ MessageType.RsaPublicKey → AllChecked ⟦<Encoded<RsaPublicKey> as BERDecodable>⟧.encodes mode bytes.now result }
-        ensures rsa_private_key { self ≡ MessageType.RsaPrivateKey → AllChecked ⟦<Encoded<RsaPrivateKey> as BERDecodable>⟧.encodes mode bytes.now result }
-        ensures ec_private_key { self ≡ MessageType.EcPrivateKey → AllChecked ⟦<Encoded<EcPrivateKey> as BERDecodable>⟧.encodes mode bytes.now result }
-        ensures content_info { self ≡ MessageType.ContentInfo → AllChecked ⟦<Encoded<ContentInfo> as BERDecodable>⟧.encodes mode bytes.now result }
-        ensures snmp_v1 { self ≡ MessageType.SnmpV1 → AllChecked ⟦<Encoded<v1::SnmpMessage> as BERDecodable>⟧.encodes mode bytes.now result }
-        ensures snmp_v2c { self ≡ MessageType.SnmpV2c → AllChecked ⟦<Encoded<v2c::SnmpMessage> as BERDecodable>⟧.encodes mode bytes.now result }
-        ensures ldap_message { self ≡ MessageType.LdapMessage → AllChecked ⟦<Encoded<LdapMessage> as BERDecodable>⟧.encodes mode bytes.now result }
-        ensures ocsp_request { self ≡ MessageType.OcspRequest → AllChecked ⟦<Encoded<OcspRequest> as BERDecodable>⟧.encodes mode bytes.now result }
-        ensures ocsp_response { self ≡ MessageType.OcspResponse → AllChecked ⟦<Encoded<OcspResponse> as BERDecodable>⟧.encodes mode bytes.now result }
-        ensures tsp_request { self ≡ MessageType.TimeStampReq → AllChecked ⟦<Encoded<TimeStampReq> as BERDecodable>⟧.encodes mode bytes.now result }
-        ensures tsp_response { self ≡ MessageType.TimeStampResp → AllChecked ⟦<Encoded<TimeStampResp> as BERDecodable>⟧.encodes mode bytes.now result }
+        ensures { ForType self
+            (AllChecked ⟦<Encoded<Certificate> as BERDecodable>⟧.encodes mode bytes.now result)
+            (AllChecked ⟦<Encoded<CertificateList> as BERDecodable>⟧.encodes mode bytes.now result)
+            (AllChecked ⟦<Encoded<CertificationRequest> as BERDecodable>⟧.encodes mode bytes.now result)
+            (AllChecked ⟦<Encoded<SubjectPublicKeyInfo> as BERDecodable>⟧.encodes mode bytes.now result)
+            (AllChecked ⟦<Encoded<OneAsymmetricKey> as BERDecodable>⟧.encodes mode bytes.now result)
+            (AllChecked ⟦<Encoded<RsaPublicKey> as BERDecodable>⟧.encodes mode bytes.now result)
+            (AllChecked ⟦<Encoded<RsaPrivateKey> as BERDecodable>⟧.encodes mode bytes.now result)
+            (AllChecked ⟦<Encoded<EcPrivateKey> as BERDecodable>⟧.encodes mode bytes.now result)
+            (AllChecked ⟦<Encoded<ContentInfo> as BERDecodable>⟧.encodes mode bytes.now result)
+            (AllChecked ⟦<Encoded<v1::SnmpMessage> as BERDecodable>⟧.encodes mode bytes.now result)
+            (AllChecked ⟦<Encoded<v2c::SnmpMessage> as BERDecodable>⟧.encodes mode bytes.now result)
+            (AllChecked ⟦<Encoded<LdapMessage> as BERDecodable>⟧.encodes mode bytes.now result)
+            (AllChecked ⟦<Encoded<OcspRequest> as BERDecodable>⟧.encodes mode bytes.now result)
+            (AllChecked ⟦<Encoded<OcspResponse> as BERDecodable>⟧.encodes mode bytes.now result)
+            (AllChecked ⟦<Encoded<TimeStampReq> as BERDecodable>⟧.encodes mode bytes.now result)
+            (AllChecked ⟦<Encoded<TimeStampResp> as BERDecodable>⟧.encodes mode bytes.now result) }
     {
         match self {
             MessageType::Certificate => all_checked::<Encoded<Certificate>>(alloc, mode, bytes),
@@ -181,40 +180,23 @@ impl MessageType {
     /// An error is one of the bytes, which are no such message, or `OutOfMemory`.
     pub fn rewritten(self, alloc: Global, bytes: &[u8]) -> ASN1Result<Vec<u8>>
         ensures same { IfOk result (λ encoding. encoding.items ≡ bytes.now) }
-        ensures certificate { self ≡ MessageType.Certificate →
-            Rewritten ⟦<Encoded<Certificate> as BERDecodable>⟧.encodes ⟦<Encoded<Certificate> as DEREncodable>⟧.encoding bytes.now result }
-        ensures certificate_list { self ≡ MessageType.CertificateList →
-            Rewritten ⟦<Encoded<CertificateList> as BERDecodable>⟧.encodes ⟦<Encoded<CertificateList> as DEREncodable>⟧.encoding bytes.now result }
-        ensures certification_request { self ≡ MessageType.CertificationRequest →
-            Rewritten ⟦<Encoded<CertificationRequest> as BERDecodable>⟧.encodes
-            ⟦<Encoded<CertificationRequest> as DEREncodable>⟧.encoding bytes.now result }
-        ensures public_key { self ≡ MessageType.SubjectPublicKeyInfo →
-            Rewritten ⟦<Encoded<SubjectPublicKeyInfo> as BERDecodable>⟧.encodes
-            ⟦<Encoded<SubjectPublicKeyInfo> as DEREncodable>⟧.encoding bytes.now result }
-        ensures private_key { self ≡ MessageType.OneAsymmetricKey →
-            Rewritten ⟦<Encoded<OneAsymmetricKey> as BERDecodable>⟧.encodes ⟦<Encoded<OneAsymmetricKey> as DEREncodable>⟧.encoding bytes.now result }
-        ensures rsa_public_key { self ≡ MessageType.RsaPublicKey →
-            Rewritten ⟦<Encoded<RsaPublicKey> as BERDecodable>⟧.encodes ⟦<Encoded<RsaPublicKey> as DEREncodable>⟧.encoding bytes.now result }
-        ensures rsa_private_key { self ≡ MessageType.RsaPrivateKey →
-            Rewritten ⟦<Encoded<RsaPrivateKey> as BERDecodable>⟧.encodes ⟦<Encoded<RsaPrivateKey> as DEREncodable>⟧.encoding bytes.now result }
-        ensures ec_private_key { self ≡ MessageType.EcPrivateKey →
-            Rewritten ⟦<Encoded<EcPrivateKey> as BERDecodable>⟧.encodes ⟦<Encoded<EcPrivateKey> as DEREncodable>⟧.encoding bytes.now result }
-        ensures content_info { self ≡ MessageType.ContentInfo →
-            Rewritten ⟦<Encoded<ContentInfo> as BERDecodable>⟧.encodes ⟦<Encoded<ContentInfo> as DEREncodable>⟧.encoding bytes.now result }
-        ensures snmp_v1 { self ≡ MessageType.SnmpV1 →
-            Rewritten ⟦<Encoded<v1::SnmpMessage> as BERDecodable>⟧.encodes ⟦<Encoded<v1::SnmpMessage> as DEREncodable>⟧.encoding bytes.now result }
-        ensures snmp_v2c { self ≡ MessageType.SnmpV2c →
-            Rewritten ⟦<Encoded<v2c::SnmpMessage> as BERDecodable>⟧.encodes ⟦<Encoded<v2c::SnmpMessage> as DEREncodable>⟧.encoding bytes.now result }
-        ensures ldap_message { self ≡ MessageType.LdapMessage →
-            Rewritten ⟦<Encoded<LdapMessage> as BERDecodable>⟧.encodes ⟦<Encoded<LdapMessage> as DEREncodable>⟧.encoding bytes.now result }
-        ensures ocsp_request { self ≡ MessageType.OcspRequest →
-            Rewritten ⟦<Encoded<OcspRequest> as BERDecodable>⟧.encodes ⟦<Encoded<OcspRequest> as DEREncodable>⟧.encoding bytes.now result }
-        ensures ocsp_response { self ≡ MessageType.OcspResponse →
-            Rewritten ⟦<Encoded<OcspResponse> as BERDecodable>⟧.encodes ⟦<Encoded<OcspResponse> as DEREncodable>⟧.encoding bytes.now result }
-        ensures tsp_request { self ≡ MessageType.TimeStampReq →
-            Rewritten ⟦<Encoded<TimeStampReq> as BERDecodable>⟧.encodes ⟦<Encoded<TimeStampReq> as DEREncodable>⟧.encoding bytes.now result }
-        ensures tsp_response { self ≡ MessageType.TimeStampResp →
-            Rewritten ⟦<Encoded<TimeStampResp> as BERDecodable>⟧.encodes ⟦<Encoded<TimeStampResp> as DEREncodable>⟧.encoding bytes.now result }
+        ensures written { ForType self
+            (Rewritten ⟦<Encoded<Certificate> as BERDecodable>⟧.encodes ⟦<Encoded<Certificate> as DEREncodable>⟧.encoding bytes.now result)
+            (Rewritten ⟦<Encoded<CertificateList> as BERDecodable>⟧.encodes ⟦<Encoded<CertificateList> as DEREncodable>⟧.encoding bytes.now result)
+            (Rewritten ⟦<Encoded<CertificationRequest> as BERDecodable>⟧.encodes ⟦<Encoded<CertificationRequest> as DEREncodable>⟧.encoding bytes.now result)
+            (Rewritten ⟦<Encoded<SubjectPublicKeyInfo> as BERDecodable>⟧.encodes ⟦<Encoded<SubjectPublicKeyInfo> as DEREncodable>⟧.encoding bytes.now result)
+            (Rewritten ⟦<Encoded<OneAsymmetricKey> as BERDecodable>⟧.encodes ⟦<Encoded<OneAsymmetricKey> as DEREncodable>⟧.encoding bytes.now result)
+            (Rewritten ⟦<Encoded<RsaPublicKey> as BERDecodable>⟧.encodes ⟦<Encoded<RsaPublicKey> as DEREncodable>⟧.encoding bytes.now result)
+            (Rewritten ⟦<Encoded<RsaPrivateKey> as BERDecodable>⟧.encodes ⟦<Encoded<RsaPrivateKey> as DEREncodable>⟧.encoding bytes.now result)
+            (Rewritten ⟦<Encoded<EcPrivateKey> as BERDecodable>⟧.encodes ⟦<Encoded<EcPrivateKey> as DEREncodable>⟧.encoding bytes.now result)
+            (Rewritten ⟦<Encoded<ContentInfo> as BERDecodable>⟧.encodes ⟦<Encoded<ContentInfo> as DEREncodable>⟧.encoding bytes.now result)
+            (Rewritten ⟦<Encoded<v1::SnmpMessage> as BERDecodable>⟧.encodes ⟦<Encoded<v1::SnmpMessage> as DEREncodable>⟧.encoding bytes.now result)
+            (Rewritten ⟦<Encoded<v2c::SnmpMessage> as BERDecodable>⟧.encodes ⟦<Encoded<v2c::SnmpMessage> as DEREncodable>⟧.encoding bytes.now result)
+            (Rewritten ⟦<Encoded<LdapMessage> as BERDecodable>⟧.encodes ⟦<Encoded<LdapMessage> as DEREncodable>⟧.encoding bytes.now result)
+            (Rewritten ⟦<Encoded<OcspRequest> as BERDecodable>⟧.encodes ⟦<Encoded<OcspRequest> as DEREncodable>⟧.encoding bytes.now result)
+            (Rewritten ⟦<Encoded<OcspResponse> as BERDecodable>⟧.encodes ⟦<Encoded<OcspResponse> as DEREncodable>⟧.encoding bytes.now result)
+            (Rewritten ⟦<Encoded<TimeStampReq> as BERDecodable>⟧.encodes ⟦<Encoded<TimeStampReq> as DEREncodable>⟧.encoding bytes.now result)
+            (Rewritten ⟦<Encoded<TimeStampResp> as BERDecodable>⟧.encodes ⟦<Encoded<TimeStampResp> as DEREncodable>⟧.encoding bytes.now result) }
     {
         match self {
             MessageType::Certificate => rewritten::<Encoded<Certificate>>(alloc, bytes),
