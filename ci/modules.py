@@ -39,6 +39,18 @@ Flags ::= SEQUENCE { flag BOOLEAN }
 Holder ::= SEQUENCE { flags Flags }
 END
 """
+# Types of one name in two crates, and constants of one name.
+SIXTH = """Sixth DEFINITIONS AUTOMATIC TAGS ::= BEGIN
+IMPORTS Flags FROM Second Flags FROM Seventh;
+Both ::= SEQUENCE { first Second.Flags, second Seventh.Flags }
+END
+"""
+SEVENTH = """Seventh DEFINITIONS AUTOMATIC TAGS ::= BEGIN
+Flags ::= SEQUENCE { level Level }
+Level ::= INTEGER { low(1), high(9) }
+level-low INTEGER ::= 2
+END
+"""
 LOOSE = """Loose DEFINITIONS AUTOMATIC TAGS ::= BEGIN
 Known ::= SEQUENCE { flag BOOLEAN }
 Code ::= SEQUENCE {
@@ -134,6 +146,20 @@ Tag { tag_class: TagClass::ContextSpecific, tag_number: 2 }], set)
 PARTS = """type Parts = OrDefault<ObjectIdentifier, TestedIdentifier<KindDefault>, OrDefault<Implicit<Context<0>, Vec<u8>>, \
 TestedOctets<KeyDefault>, OrDefault<String, TestedText<TextDefault>, ()>>>;
 """
+# The types of two crates, and the constants.
+BOTH = """use all::Flags;
+use other::Flags as Flags2;
+"""
+LEVELS = """
+/// `low` of `Level`.
+pub const LEVEL_LOW: i64 = 1;
+
+/// `high` of `Level`.
+pub const LEVEL_HIGH: i64 = 9;
+
+/// `level-low` of the module `Seventh`.
+pub const LEVEL_LOW_2: i64 = 2;
+"""
 # What is said of what is wrong in them.
 IS_LOOSE = """loose.asn1:4:26: the contents of a string aren't read
         octets OCTET STRING (CONTAINING Known) }
@@ -175,6 +201,8 @@ MODULES = {
     "second": SECOND,
     "third": THIRD,
     "fourth": FOURTH,
+    "sixth": SIXTH,
+    "seventh": SEVENTH,
     "loose": LOOSE,
     "malformed": MALFORMED,
     "unknown": UNKNOWN,
@@ -229,6 +257,10 @@ def crates(folder):
     yield "a type with an imported name", run(folder, "--crate", "two", "--use", "all", "fourth.asn1")[0], 0
     yield "its name", "    pub flags: Flags2,\n" in (out / "two/src/holder.rt").read_text(), True
     yield "the imported name", "    pub flags: Flags,\n" in (out / "two/src/report.rt").read_text(), True
+    yield "a crate with constants", run(folder, "--crate", "other", "seventh.asn1")[0], 0
+    yield "constants of one name", (out / "other/src/constants.rt").read_text().endswith(LEVELS), True
+    yield "types of one name", run(folder, "--crate", "pair", "--use", "all", "--use", "other", "sixth.asn1")[0], 0
+    yield "their names", BOTH in (out / "pair/src/both.rt").read_text(), True
     yield "no such crate", run(folder, "--list", "--use", "none", "third.asn1")[0], 3
     (out / "some/exports").write_text("First Report\n")
     yield "a list that is malformed", run(folder, "--list", "--use", "some", "third.asn1"), (1, "", IS_NO_LIST)

@@ -1,6 +1,6 @@
 //! The constants of a crate: named numbers and bits, and values that modules assign.
 
-use crate::naming::is_used;
+use crate::naming::{is_used, keep, with_ending};
 use crate::text::Text;
 use crate::type_source::{CrateSource, Files};
 use crate::words::put_snake;
@@ -104,15 +104,29 @@ fn put_value(value: &Value<'_>, out: &mut Text) {
     }
 }
 
-// Appends a constant.
-fn put_constant(constant: &Constant<'_>, name: &[u8], out: &mut Text) {
+// Appends which constant of the modules it is, and of which of them, if a constant before it has its name in Rust.
+fn put_comment(
+    constant: &Constant<'_>,
+    source: &CrateSource<'_, '_>,
+    is_second: bool,
+    out: &mut Text,
+) {
     out.say("\n/// `");
     out.put(constant.name);
     if let Some(of) = constant.of {
         out.say("` of `");
         out.put(of);
     }
+    if let (true, Some(module)) = (is_second, source.modules.get(constant.place.module)) {
+        let tree = module.tree;
+        out.say("` of the module `");
+        out.put(tree.name.text);
+    }
     out.say("`.\n");
+}
+
+// Appends a constant after its comment.
+fn put_constant(constant: &Constant<'_>, name: &[u8], out: &mut Text) {
     out.say(match &constant.value {
         Value::ObjectIdentifier(_) => "pub static ",
         _ => "pub const ",
@@ -121,6 +135,23 @@ fn put_constant(constant: &Constant<'_>, name: &[u8], out: &mut Text) {
     out.say(": ");
     put_value(&constant.value, out);
     out.say(";\n");
+}
+
+// Appends a constant and its comment, under a name that differs from those before it.
+fn add_constant(
+    alloc: Global,
+    source: &CrateSource<'_, '_>,
+    constant: &Constant<'_>,
+    names: &mut Vec<Vec<u8>>,
+    out: &mut Text,
+) -> Result<(), AllocError> {
+    let own = constant_name(alloc, constant);
+    let is_second = is_used(names.as_slice(), own.as_slice());
+    let text = with_ending(names.as_slice(), own, "_2");
+    let name = keep(names, alloc, text)?;
+    put_comment(constant, source, is_second, out);
+    put_constant(constant, name.as_slice(), out);
+    Ok(())
 }
 
 /// Adds the file of constants, if there are any, and returns whether there are.
@@ -135,16 +166,7 @@ pub fn add_constants(
         "//! Named numbers, named bits and values of the modules. An object identifier is its arcs.\n",
     );
     for constant in source.constants {
-        let Some(name) = constant_name(alloc, constant).finish() else {
-            return Err(AllocError);
-        };
-        if is_used(names.as_slice(), name.as_slice()) {
-            continue;
-        }
-        put_constant(constant, name.as_slice(), &mut text);
-        if names.push(name).is_err() {
-            return Err(AllocError);
-        }
+        add_constant(alloc, source, constant, &mut names, &mut text)?;
     }
     if names.is_empty() {
         return Ok(false);

@@ -1,6 +1,7 @@
 //! The types of other crates that modules import.
 
 use crate::exports::Export;
+use crate::naming::UsedNames;
 use crate::terms::{TypeName, own_tag};
 use asn1_types::model::KnownType;
 use std::alloc::{AllocError, Global};
@@ -25,18 +26,35 @@ pub fn known_types<'a>(
     Ok(types)
 }
 
-// The names of a type in sources.
-fn name_of(alloc: Global, export: &Export<'_>) -> Result<TypeName, AllocError> {
-    let name = Vec::from_slice(alloc, export.rust)?;
+// The name of a type in its crate, if sources call it by another one.
+fn original_of(
+    alloc: Global,
+    export: &Export<'_>,
+    name: &[u8],
+) -> Result<Option<Vec<u8>>, AllocError> {
+    if name == export.rust {
+        return Ok(None);
+    }
+    let original = Vec::from_slice(alloc, export.rust)?;
+    Ok(Some(original))
+}
+
+// The names of a type in sources, which differ from those before it.
+fn name_of(
+    alloc: Global,
+    export: &Export<'_>,
+    used: &mut UsedNames,
+) -> Result<TypeName, AllocError> {
+    let name = used.take_imported(export.rust)?;
+    let law = used.take_law(export.origin, export.file)?;
     let file = Vec::from_slice(alloc, export.file)?;
     let origin = Vec::from_slice(alloc, export.origin.as_bytes())?;
-    let mut law = Vec::from_slice(alloc, export.origin.as_bytes())?;
-    law.extend_from_slice(b"_".as_slice())?;
-    law.extend_from_slice(export.file)?;
+    let original = original_of(alloc, export, name.as_slice())?;
     Ok(TypeName {
         name,
         file,
         origin: Some(origin),
+        original,
         law,
         is_enumeration: export.is_enumeration,
         tags: Vec::new(alloc),
@@ -51,9 +69,10 @@ fn name_of(alloc: Global, export: &Export<'_>) -> Result<TypeName, AllocError> {
 
 /// The names of the types of other crates, in the same order.
 pub fn known_names(alloc: Global, exports: &[Export<'_>]) -> Result<Vec<TypeName>, AllocError> {
+    let mut used = UsedNames::new(alloc);
     let mut names = Vec::new(alloc);
     for export in exports {
-        let name = name_of(alloc, export)?;
+        let name = name_of(alloc, export, &mut used)?;
         if names.push(name).is_err() {
             return Err(AllocError);
         }

@@ -1,4 +1,7 @@
 //! The names of types, files, fields and variants: those of the module, and different from all others beside them.
+ghost use Rattle.std.specs.Prelude.{◌≡◌, ◌++◌, ◌∷◌, [], IfOk, IsOk, false};
+ghost use Rattle.std.specs.Bool.{OnFalse};
+ghost use Rattle.asn1_source.specs.Names.{is_used, octets_of};
 
 use crate::terms::{TypeName, is_canonical};
 use crate::text::Text;
@@ -7,24 +10,33 @@ use asn1_types::model::{Alternative, Body, Definition, Part};
 use std::alloc::{AllocError, Global};
 
 /// Whether a name is in a list.
-pub fn is_used(names: &[Vec<u8>], name: &[u8]) -> bool {
-    for known in names {
-        if known.as_slice() == name {
-            return true;
-        }
-    }
-    false
+pub fn is_used(names: &[Vec<u8>], name: &[u8]) -> bool
+    ensures { result ≡ is_used names.now name.now }
+{
+    names.iter().any(|known| known.as_slice() == name)
 }
 
-// Appends 2 to a name until it differs from those before it.
-fn distinct(names: &[Vec<u8>], mut name: Text) -> Text {
+/// A name with an ending after it, as often as it takes to differ from those before it.
+pub fn with_ending(names: &[Vec<u8>], mut name: Text, ending: &str) -> Text
+    ensures { OnFalse result.is_cut (is_used names.now result.bytes.items ≡ false) }
+{
     for _ in 0..names.len() {
         if !is_used(names, name.as_slice()) {
-            break;
+            return name;
         }
-        name.say("2");
+        name.say(ending);
+    }
+    if is_used(names, name.as_slice()) {
+        name.cut();
     }
     name
+}
+
+// A name with 2 after it, as often as it takes to differ from those before it.
+fn distinct(names: &[Vec<u8>], name: Text) -> Text
+    ensures { OnFalse result.is_cut (is_used names.now result.bytes.items ≡ false) }
+{
+    with_ending(names, name, "2")
 }
 
 // Whether a word with a digit after it is in a text.
@@ -48,18 +60,41 @@ fn is_piece(name: &[u8], untagged: &str, parts: &str, types: &str) -> bool {
     name.ends_with(untagged.as_bytes()) || has_numbered(name, parts) || has_numbered(name, types)
 }
 
-// The name of a type: that of the module, as Rust writes names of types. The type of a default has a name that ends in `Default`.
+// Whether a type can't have a name: the sources have it. The type of a default has a name that ends in `Default`.
+fn is_type_taken(name: &[u8]) -> bool {
+    is_taken(name) || name.ends_with(b"Default") || is_piece(name, "Untagged", "Parts", "Types")
+}
+
+// The name of a type: that of the module, as Rust writes names of types.
 fn type_text(alloc: Global, path: &[&[u8]]) -> Text {
     let mut text = Text::new(alloc);
     for name in path {
         put_camel(*name, &mut text);
     }
-    let name = text.as_slice();
-    if is_taken(name)
-        || name.ends_with(b"Default")
-        || is_piece(name, "Untagged", "Parts", "Types")
-    {
+    if is_type_taken(text.as_slice()) {
         text.say("Type");
+    }
+    text
+}
+
+// The name of a type of another crate: that in its crate.
+fn imported_text(alloc: Global, name: &[u8]) -> Text {
+    let mut text = Text::new(alloc);
+    text.put(name);
+    if is_type_taken(name) {
+        text.say("Type");
+    }
+    text
+}
+
+// What the names of the laws of a type of another crate begin with: the names of the crate and of its file.
+fn law_text(alloc: Global, origin: &str, file: &[u8]) -> Text {
+    let mut text = Text::new(alloc);
+    text.say(origin);
+    text.say("_");
+    text.put(file);
+    if is_file_taken(text.as_slice()) {
+        text.say("_type");
     }
     text
 }
@@ -192,6 +227,22 @@ impl UsedNames {
         keep(&mut self.files, self.alloc, text)
     }
 
+    /// Takes a name for a type of another crate: that in its crate, unless the sources or a type before it have it.
+    pub fn take_imported(&mut self, name: &[u8]) -> Result<Vec<u8>, AllocError>
+        ensures { IfOk result (λ name. is_used self.old.types.items name.items ≡ false) }
+    {
+        let text = distinct(self.types.as_slice(), imported_text(self.alloc, name));
+        keep(&mut self.types, self.alloc, text)
+    }
+
+    /// Takes what the names of the laws of a type of another crate begin with, by its crate and its file.
+    pub fn take_law(&mut self, origin: &str, file: &[u8]) -> Result<Vec<u8>, AllocError>
+        ensures { IfOk result (λ name. is_used self.old.files.items name.items ≡ false) }
+    {
+        let text = distinct(self.files.as_slice(), law_text(self.alloc, origin, file));
+        keep(&mut self.files, self.alloc, text)
+    }
+
     /// The names of a definition.
     pub fn name(&mut self, definition: &Definition<'_>) -> Result<TypeName, AllocError> {
         let name = self.take_type(definition.path.as_slice())?;
@@ -202,6 +253,7 @@ impl UsedNames {
             name,
             file,
             origin: None,
+            original: None,
             law,
             is_enumeration: is_enumeration(&definition.body),
             tags,
@@ -215,8 +267,12 @@ impl UsedNames {
     }
 }
 
-// Keeps a name, and returns it.
-fn keep(names: &mut Vec<Vec<u8>>, alloc: Global, text: Text) -> Result<Vec<u8>, AllocError> {
+/// Keeps a name, and returns it.
+pub fn keep(names: &mut Vec<Vec<u8>>, alloc: Global, text: Text) -> Result<Vec<u8>, AllocError>
+    ensures name { IfOk result (λ name. name.items ≡ text.bytes.items) }
+    ensures whole { IsOk result → text.is_cut ≡ false }
+    ensures listed { IfOk result (λ name. octets_of names.new.items ≡ octets_of names.old.items ++ name.items ∷ []) }
+{
     let Some(name) = text.finish() else {
         return Err(AllocError);
     };

@@ -30,6 +30,8 @@ pub struct TypeName {
     pub file: Vec<u8>,
     /// The crate, if it is another one.
     pub origin: Option<Vec<u8>>,
+    /// Its name in that crate, if it has another one there.
+    pub original: Option<Vec<u8>>,
     /// What the names of its laws begin with.
     pub law: Vec<u8>,
     /// Whether it is an enum of an ENUMERATED.

@@ -1,4 +1,5 @@
 //! A text that is written piece by piece, and that knows whether memory ran out.
+ghost use Rattle.std.specs.Prelude.{◌≡◌, IfSome, IsSome, IsTrue, false};
 
 use std::alloc::Global;
 
@@ -88,7 +89,9 @@ impl Text {
     }
 
     /// Lets the text be cut off.
-    pub fn cut(&mut self) {
+    pub fn cut(&mut self)
+        ensures { IsTrue self.new.is_cut }
+    {
         self.is_cut = true;
     }
 
@@ -98,12 +101,17 @@ impl Text {
     }
 
     /// Its octets.
-    pub fn as_slice(&self) -> &[u8] {
+    pub fn as_slice(&self) -> &[u8]
+        ensures { result.now ≡ self.now.bytes.items }
+    {
         self.bytes.as_slice()
     }
 
     /// Its octets, or `None` if memory ran out.
-    pub fn finish(self) -> Option<Vec<u8>> {
+    pub fn finish(self) -> Option<Vec<u8>>
+        ensures whole { IsSome result → self.is_cut ≡ false }
+        ensures octets { IfSome result (λ octets. octets.items ≡ self.bytes.items) }
+    {
         let Text { bytes, is_cut, .. } = self;
         if is_cut {
             return None;

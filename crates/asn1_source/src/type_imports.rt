@@ -5,6 +5,7 @@
 //! | `@K` | the crate of the type |
 //! | `@F` | its file |
 //! | `@N` | its name |
+//! | `@O` | its name in its crate |
 //! | `@P` | what the names of its laws begin with |
 //! | `@S` | the file of specs that has the numbers of its items |
 
@@ -24,34 +25,34 @@ struct Line {
 static LAW_LINES: [Line; 3] = [
     Line {
         ending: "_law",
-        text: "ghost use Rattle.@K.specs.contracts.@F.@NNotation.TheImpl.Laws.{lawful-law as @P_law};\n",
+        text: "ghost use Rattle.@K.specs.contracts.@F.@ONotation.TheImpl.Laws.{lawful-law as @P_law};\n",
     },
     Line {
         ending: "_non_empty",
-        text: "ghost use Rattle.@K.specs.contracts.@F.@NNotation.TheImpl.Laws.{non_empty-law as @P_non_empty};\n",
+        text: "ghost use Rattle.@K.specs.contracts.@F.@ONotation.TheImpl.Laws.{non_empty-law as @P_non_empty};\n",
     },
     Line {
         ending: "_written",
-        text: "ghost use Rattle.@K.specs.contracts.@F.@NCanonicalNotation.TheImpl.Laws.{written-law as @P_written};\n",
+        text: "ghost use Rattle.@K.specs.contracts.@F.@OCanonicalNotation.TheImpl.Laws.{written-law as @P_written};\n",
     },
 ];
 
 static NUMBER_LINES: [Line; 4] = [
     Line {
         ending: "_detects",
-        text: "ghost use Rattle.@K.specs.@N.{@P_detects};\n",
+        text: "ghost use Rattle.@K.specs.@O.{@P_detects};\n",
     },
     Line {
         ending: "_number",
-        text: "ghost use Rattle.@K.specs.@N.{@P_number};\n",
+        text: "ghost use Rattle.@K.specs.@O.{@P_number};\n",
     },
     Line {
         ending: "_named",
-        text: "ghost use Rattle.@K.specs.@N.{@P_named};\n",
+        text: "ghost use Rattle.@K.specs.@O.{@P_named};\n",
     },
     Line {
         ending: "_writable",
-        text: "ghost use Rattle.@K.specs.@N.{@P_writable};\n",
+        text: "ghost use Rattle.@K.specs.@O.{@P_writable};\n",
     },
 ];
 
@@ -59,19 +60,19 @@ static NUMBER_LINES: [Line; 4] = [
 static OTHER_NUMBER_LINES: [Line; 4] = [
     Line {
         ending: "_detects",
-        text: "ghost use Rattle.@K.specs.@N.{@F_detects as @P_detects};\n",
+        text: "ghost use Rattle.@K.specs.@O.{@F_detects as @P_detects};\n",
     },
     Line {
         ending: "_number",
-        text: "ghost use Rattle.@K.specs.@N.{@F_number as @P_number};\n",
+        text: "ghost use Rattle.@K.specs.@O.{@F_number as @P_number};\n",
     },
     Line {
         ending: "_named",
-        text: "ghost use Rattle.@K.specs.@N.{@F_named as @P_named};\n",
+        text: "ghost use Rattle.@K.specs.@O.{@F_named as @P_named};\n",
     },
     Line {
         ending: "_writable",
-        text: "ghost use Rattle.@K.specs.@N.{@F_writable as @P_writable};\n",
+        text: "ghost use Rattle.@K.specs.@O.{@F_writable as @P_writable};\n",
     },
 ];
 
@@ -86,6 +87,14 @@ fn lines_of(name: &TypeName) -> &'static [Line] {
     }
 }
 
+// The name of a type in its crate.
+fn original_of(name: &TypeName) -> &[u8] {
+    match &name.original {
+        Some(original) => original.as_slice(),
+        None => name.name.as_slice(),
+    }
+}
+
 /// Appends a text with what its marks represent.
 pub fn put_type_line(text: &str, krate: &[u8], name: &TypeName, out: &mut Text) {
     let mut is_mark = false;
@@ -95,6 +104,7 @@ pub fn put_type_line(text: &str, krate: &[u8], name: &TypeName, out: &mut Text) 
                 b'K' => out.put(krate),
                 b'F' => out.put(name.file.as_slice()),
                 b'N' => out.put(name.name.as_slice()),
+                b'O' => out.put(original_of(name)),
                 _ => out.put(name.law.as_slice()),
             }
             is_mark = false;
@@ -143,6 +153,9 @@ pub fn put_type(name: &TypeName, words: &Words<'_>, out: &mut Text) {
         return;
     }
     match &name.origin {
+        Some(origin) if name.original.is_some() => {
+            put_type_line("use @K::@O as @N;\n", origin.as_slice(), name, out)
+        }
         Some(origin) => put_type_line("use @K::@N;\n", origin.as_slice(), name, out),
         None => put_type_line("use crate::@F::@N;\n", b"crate", name, out),
     }

@@ -484,6 +484,7 @@ fn untagged_name(alloc: Global, name: &TypeName) -> Result<TypeName, AllocError>
             name: text,
             file,
             origin: None,
+            original: None,
             law,
             is_enumeration: false,
             tags: Vec::new(alloc),

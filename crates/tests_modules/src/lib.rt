@@ -5,6 +5,7 @@
 //! | `conversions` | what values of a module's type are in DER |
 //! | `described` | resolved types, described in one line each |
 //! | `fields` | which part of a type each element is |
+//! | `imported_names` | what `asn1_source` calls types of other crates |
 //! | `listing` | what is listed and rejected of elements by their module |
 //! | `schemas` | the tables of a module's types |
 //! | `sources` | what `asn1_source` writes for types |
@@ -18,6 +19,8 @@ mod conversions;
 mod described;
 #[cfg(test)]
 mod fields;
+#[cfg(test)]
+mod imported_names;
 #[cfg(test)]
 mod listing;
 #[cfg(test)]

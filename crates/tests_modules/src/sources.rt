@@ -1,12 +1,12 @@
 //! What `asn1_source` writes for the types of modules.
 
 use asn1_source::{
-    ModuleSource, SourceFile, list_of, mutants_of, names_of, reached, source_of, sources_of,
-    tests_of,
+    Export, ModuleSource, SourceFile, known_names, known_types, list_of, mutants_of, names_of,
+    reached, source_of, sources_of, tests_of,
 };
 use asn1_syntax::parse;
 use asn1_syntax::tree::Module;
-use asn1_types::model::{KnownType, Resolved};
+use asn1_types::model::Resolved;
 use asn1_types::resolve;
 use std::alloc::{AllocError, Global};
 use std::process::Abort;
@@ -83,6 +83,20 @@ static CONSTANTS: [Row; 2] = [
         b"M DEFINITIONS ::= BEGIN low INTEGER ::= -9223372036854775808 lower INTEGER ::= -9223372036854775809 END",
         "src/constants.rt",
         "pub const LOW: i64 = -9223372036854775808;\n\n/// `lower`.\npub const LOWER: i128 = -9223372036854775809;\n",
+    ),
+];
+
+// Constants with one name in Rust: of a value and a named number, and of the values of three modules.
+static SHARED_CONSTANTS: [Row; 2] = [
+    (
+        b"M DEFINITIONS ::= BEGIN a-b INTEGER ::= 1 A ::= INTEGER { b(7), c(8) } END",
+        "src/constants.rt",
+        "\n/// `a-b`.\npub const A_B: i64 = 1;\n\n/// `b` of `A` of the module `M`.\npub const A_B_2: i64 = 7;\n\n/// `c` of `A`.\npub const A_C: i64 = 8;\n",
+    ),
+    (
+        b"L DEFINITIONS ::= BEGIN id INTEGER ::= 1 END M DEFINITIONS ::= BEGIN id OBJECT IDENTIFIER ::= { 2 1 } END N DEFINITIONS ::= BEGIN id INTEGER ::= 3 END",
+        "src/constants.rt",
+        "\n/// `id`.\npub const ID: i64 = 1;\n\n/// `id` of the module `M`.\npub static ID_2: [u64; 2] = [2, 1];\n\n/// `id` of the module `N`.\npub const ID_2_2: i64 = 3;\n",
     ),
 ];
 
@@ -343,13 +357,15 @@ fn has_lines<'a>(
     alloc: Global,
     source: &'a [u8],
     modules: &'a [Module<'a>],
+    exports: &[Export<'_>],
     resolved: &Resolved<'a>,
     file: &str,
     lines: &str,
 ) -> Result<bool, AllocError> {
     let definitions = resolved.definitions.as_slice();
     let tags = resolved.tag_sets.as_slice();
-    let names = names_of(alloc, definitions, tags, Vec::new(alloc))?;
+    let imported = known_names(alloc, exports)?;
+    let names = names_of(alloc, definitions, tags, imported)?;
     let wanted = reached(alloc, definitions, None)?;
     let mut sources = Vec::new(alloc);
     for tree in modules {
@@ -374,18 +390,21 @@ fn has_lines<'a>(
     )
 }
 
-// Whether a file of the crate of modules, or one that tests it, has some lines.
-fn is_written<'a>(
+/// Whether a file of the crate of modules, or one that tests it, has some lines, where other crates export these types.
+pub(crate) fn is_written<'a>(
     alloc: Global,
     source: &'a [u8],
     modules: &'a [Module<'a>],
-    known: &'a [KnownType<'a>],
+    exports: &'a [Export<'a>],
     file: &str,
     lines: &str,
 ) -> bool {
-    match resolve(alloc, modules, known) {
+    let Ok(known) = known_types(alloc, exports) else {
+        return false;
+    };
+    match resolve(alloc, modules, known.leak()) {
         Ok(resolved) => {
-            has_lines(alloc, source, modules, &resolved, file, lines).unwrap_or(false)
+            has_lines(alloc, source, modules, exports, &resolved, file, lines).unwrap_or(false)
         }
         Err(_) => false,
     }
@@ -395,11 +414,11 @@ fn is_written<'a>(
 fn first_missing(
     alloc: Global,
     rows: &'static [Row],
-    known: &'static [KnownType<'static>],
+    exports: &'static [Export<'static>],
 ) -> Option<&'static str> {
     for row in rows {
         let is_so = match parse(alloc, row.0) {
-            Ok(modules) => is_written(alloc, row.0, modules.leak(), known, row.1, row.2),
+            Ok(modules) => is_written(alloc, row.0, modules.leak(), exports, row.1, row.2),
             Err(_) => false,
         };
         if !is_so {
@@ -420,6 +439,7 @@ fn choices_are_written(rt: HostRuntime) {
 fn names_are_written(rt: HostRuntime) {
     assert!(rt; first_missing(rt.alloc(), &NAMES, &[]).is_none());
     assert!(rt; first_missing(rt.alloc(), &CONSTANTS, &[]).is_none());
+    assert!(rt; first_missing(rt.alloc(), &SHARED_CONSTANTS, &[]).is_none());
 }
 
 #[test]
