@@ -205,10 +205,7 @@ fn put_variant_type(side: &Side<'_, '_>, names: &TypeNames, out: &mut Text) {
 
 // Appends the name of a variant in clauses.
 fn put_ghost(variant: &Variant, out: &mut Text) {
-    out.put(variant.name.as_slice());
-    if variant.clashes {
-        out.say("Variant");
-    }
+    out.put(variant.clause.as_slice());
 }
 
 // Appends the value `k` after the alternatives before this one.
@@ -404,8 +401,8 @@ pub fn choice_of<'p, 'a>(
 pub struct Variant {
     /// The name.
     pub name: Vec<u8>,
-    /// Whether a clause needs another name for it.
-    pub clashes: bool,
+    /// What a clause calls it.
+    pub clause: Vec<u8>,
 }
 
 /// The alternatives of one file: the first, and how many.

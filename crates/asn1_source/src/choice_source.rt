@@ -3,6 +3,7 @@ ghost use Rattle.std.specs.Prelude.{◌<◌, ◌≤◌};
 
 use crate::alternatives::*;
 use crate::imports::Words;
+use crate::naming::clause_name;
 use crate::template::Fragments;
 use crate::terms::TypeNames;
 use crate::text::Text;
@@ -40,17 +41,36 @@ fn clashes(name: &[u8], choice: &[u8], names: &TypeNames) -> bool {
     false
 }
 
+// The variant of a name among these, and what a clause calls it.
+fn variant_of(
+    alloc: Global,
+    variant_names: &[Vec<u8>],
+    name: &[u8],
+    clashes: bool,
+) -> Result<Variant, AllocError> {
+    let own = Vec::from_slice(alloc, name)?;
+    if !clashes {
+        let clause = Vec::from_slice(alloc, name)?;
+        return Ok(Variant { name: own, clause });
+    }
+    match clause_name(variant_names, name, alloc).finish() {
+        Some(clause) => Ok(Variant { name: own, clause }),
+        None => Err(AllocError),
+    }
+}
+
 /// The variants of these names.
 pub fn variants_of(
     alloc: Global,
-    variant_names: Vec<Vec<u8>>,
+    variant_names: &[Vec<u8>],
     choice: &[u8],
     names: &TypeNames,
 ) -> Result<Vec<Variant>, AllocError> {
     let mut variants = Vec::new(alloc);
     for name in variant_names {
         let clashes = clashes(name.as_slice(), choice, names);
-        if variants.push(Variant { name, clashes }).is_err() {
+        let variant = variant_of(alloc, variant_names, name.as_slice(), clashes)?;
+        if variants.push(variant).is_err() {
             return Err(AllocError);
         }
     }
@@ -67,10 +87,9 @@ fn set_ghosts(fragments: &mut Fragments, source: &ChoiceSource<'_, '_>) {
         }
         is_first = false;
         put_imported_variant(variant.name.as_slice(), &mut text);
-        if variant.clashes {
+        if variant.clause.as_slice() != variant.name.as_slice() {
             text.say(" as ");
-            text.put(variant.name.as_slice());
-            text.say("Variant");
+            text.put(variant.clause.as_slice());
         }
     }
     fragments.set(b'G', text);

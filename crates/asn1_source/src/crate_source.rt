@@ -37,14 +37,16 @@ fn choice_tags_at(
     }
 }
 
-/// The names of definitions, what tags they have, and which of them are canonical.
+/// The names of definitions in a crate, what tags they have, and which of them are canonical.
 pub fn names_of(
     alloc: Global,
+    krate: &[u8],
     definitions: &[Definition<'_>],
     tag_sets: &[TagSet],
     imported: Vec<TypeName>,
 ) -> Result<TypeNames, AllocError> {
     let mut used = UsedNames::new(alloc);
+    used.keep_crate(krate)?;
     used.keep_imported(imported.as_slice())?;
     let mut names = TypeNames {
         defined: Vec::new(alloc),

@@ -1,10 +1,11 @@
 //! The source of an ENUMERATED, and its specs.
 
+use crate::naming::clause_name;
 use crate::template::Fragments;
 use crate::templates::{ENUMERATION, ENUMERATION_SPECS, OPEN_ENUMERATION_SPECS};
 use crate::terms::put_integer;
 use crate::text::Text;
-use crate::words::put_imported_variant;
+use crate::words::{is_specs_name, put_imported_variant};
 use asn1_types::model::{Enumeration, EnumerationItem, Integer};
 
 // Texts for each item, in which `@v` is its variant, and `@g` in clauses, `@n` its number, and `@z` in clauses, `@N` the enum and `@P` its specs.
@@ -54,6 +55,7 @@ static LISTED_NUMBERS: ItemLine = ItemLine {
 #[derive(Clone, Copy)]
 struct Item<'p> {
     variant: &'p [u8],
+    variants: &'p [Vec<u8>],
     number: i64,
     name: &'p [u8],
     law: &'p [u8],
@@ -74,38 +76,28 @@ fn put_signed(number: i64, out: &mut Text) {
     out.put_number(number.unsigned_abs());
 }
 
-// Names in the specs of an ENUMERATED that a variant may have.
-static SPECS_NAMES: [&str; 6] = [
-    "Bool",
-    "DetectsDefault",
-    "FitsSigned",
-    "List",
-    "Type",
-    "Unit",
-];
-
 // Whether the specs need another name for a variant: theirs have it, or the enum has.
 fn clashes(variant: &[u8], name: &[u8]) -> bool {
-    for word in SPECS_NAMES.as_slice() {
-        if word.as_bytes() == variant {
-            return true;
-        }
-    }
-    variant == name
+    is_specs_name(variant) || variant == name
 }
 
 // Appends the name of a variant in clauses.
-fn put_ghost(variant: &[u8], name: &[u8], out: &mut Text) {
-    out.put(variant);
-    if clashes(variant, name) {
-        out.say("Variant");
+fn put_ghost(variant: &[u8], variants: &[Vec<u8>], name: &[u8], out: &mut Text) {
+    if !clashes(variant, name) {
+        out.put(variant);
+        return;
+    }
+    let text = clause_name(variants, variant, out.alloc());
+    out.put(text.as_slice());
+    if text.is_cut() {
+        out.cut();
     }
 }
 
 fn put_mark(mark: u8, item: Item<'_>, out: &mut Text) {
     match mark {
         b'v' => out.put(item.variant),
-        b'g' => put_ghost(item.variant, item.name, out),
+        b'g' => put_ghost(item.variant, item.variants, item.name, out),
         b'n' => put_signed(item.number, out),
         b'z' => put_integer(integer(item.number), out),
         b'N' => out.put(item.name),
@@ -171,6 +163,7 @@ fn put_items(line: &'static ItemLine, source: &EnumerationSource<'_, '_>, out: &
         };
         let item = Item {
             variant: variant.as_slice(),
+            variants: source.variants,
             number,
             name: source.name,
             law: source.law,
@@ -214,7 +207,7 @@ fn set_names(fragments: &mut Fragments, source: &EnumerationSource<'_, '_>) {
         put_imported_variant(variant.as_slice(), &mut text);
         if clashes(variant.as_slice(), source.name) {
             text.say(" as ");
-            put_ghost(variant.as_slice(), source.name, &mut text);
+            put_ghost(variant.as_slice(), source.variants, source.name, &mut text);
         }
     }
     fragments.set(b'G', text);

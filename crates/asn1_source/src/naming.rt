@@ -5,7 +5,7 @@ ghost use Rattle.asn1_source.specs.Names.{is_used, octets_of};
 
 use crate::terms::{TypeName, is_canonical};
 use crate::text::Text;
-use crate::words::{is_reserved, is_taken, put_camel, put_snake};
+use crate::words::{is_reserved, is_specs_name, is_taken, put_camel, put_snake};
 use asn1_types::model::{Alternative, Body, Definition, Part};
 use std::alloc::{AllocError, Global};
 
@@ -39,6 +39,43 @@ fn distinct(names: &[Vec<u8>], name: Text) -> Text
     with_ending(names, name, "2")
 }
 
+// A name of a type with 2 after it, as often as it takes to differ from those before it. A name with a number after `Parts` or `Types` may be that of
+// a piece, so such a name has `Type` after it.
+fn distinct_type(names: &[Vec<u8>], name: Text) -> Text
+    ensures { OnFalse result.is_cut (is_used names.now result.bytes.items ≡ false) }
+{
+    let text = name.as_slice();
+    let ending = if text.ends_with(b"Parts") || text.ends_with(b"Types") {
+        "Type"
+    } else {
+        "2"
+    };
+    with_ending(names, name, ending)
+}
+
+// As `distinct_type`, of a name of a file.
+fn distinct_file(names: &[Vec<u8>], name: Text) -> Text
+    ensures { OnFalse result.is_cut (is_used names.now result.bytes.items ≡ false) }
+{
+    let text = name.as_slice();
+    let ending = if text.ends_with(b"_parts") || text.ends_with(b"_types") {
+        "_type"
+    } else {
+        "2"
+    };
+    with_ending(names, name, ending)
+}
+
+/// What a clause calls a variant, if something else has its name there.
+pub fn clause_name(variants: &[Vec<u8>], name: &[u8], alloc: Global) -> Text
+    ensures { OnFalse result.is_cut (is_used variants.now result.bytes.items ≡ false) }
+{
+    let mut text = Text::new(alloc);
+    text.put(name);
+    text.say("Variant");
+    distinct(variants, text)
+}
+
 // Whether a word with a digit after it is in a text.
 fn has_numbered(text: &[u8], word: &str) -> bool {
     for start in 0..text.len() {
@@ -65,13 +102,19 @@ fn is_type_taken(name: &[u8]) -> bool {
     is_taken(name) || name.ends_with(b"Default") || is_piece(name, "Untagged", "Parts", "Types")
 }
 
+// Whether the specs of an ENUMERATED can't have a name: their list has it, or what they bring in.
+fn is_specs_taken(name: &[u8]) -> bool {
+    name == b"Lib".as_slice() || is_specs_name(name)
+}
+
 // The name of a type: that of the module, as Rust writes names of types.
-fn type_text(alloc: Global, path: &[&[u8]]) -> Text {
+fn type_text(alloc: Global, definition: &Definition<'_>) -> Text {
     let mut text = Text::new(alloc);
-    for name in path {
+    for name in definition.path.iter() {
         put_camel(*name, &mut text);
     }
-    if is_type_taken(text.as_slice()) {
+    let name = text.as_slice();
+    if is_type_taken(name) || is_enumeration(&definition.body) && is_specs_taken(name) {
         text.say("Type");
     }
     text
@@ -117,7 +160,7 @@ fn file_text(alloc: Global, path: &[&[u8]]) -> Text {
 }
 
 // What the names of laws of the library begin with.
-static LAW_NAMES: [&str; 40] = [
+static LAW_NAMES: [&str; 48] = [
     "alternative",
     "any",
     "at_most",
@@ -132,20 +175,26 @@ static LAW_NAMES: [&str; 40] = [
     "element",
     "enumerated",
     "explicit",
+    "explicit_application",
+    "explicit_private",
     "flag",
     "general",
     "ia5",
     "int32",
     "int64",
+    "list_sized",
     "named",
     "named_bits",
     "no",
     "no_part",
+    "non_empty_list",
+    "non_empty_set",
     "null",
     "number",
     "number32",
     "numeric",
     "octets",
+    "octets_sized",
     "oid",
     "optional",
     "part",
@@ -156,8 +205,10 @@ static LAW_NAMES: [&str; 40] = [
     "sequence",
     "sequence_of",
     "set_of",
+    "set_sized",
     "text",
     "utc",
+    "visible",
 ];
 
 // Whether a file can't have a name: words and libraries have it.
@@ -195,6 +246,15 @@ impl UsedNames {
         }
     }
 
+    /// Reserves the name of the crate, which no file in it may have.
+    pub fn keep_crate(&mut self, krate: &[u8]) -> Result<(), AllocError> {
+        let name = Vec::from_slice(self.alloc, krate)?;
+        match self.files.push(name) {
+            Ok(()) => Ok(()),
+            Err(_) => Err(AllocError),
+        }
+    }
+
     /// Reserves the names of types of other crates, and of these crates. A file may bring them in beside those of definitions.
     pub fn keep_imported(&mut self, imported: &[TypeName]) -> Result<(), AllocError> {
         for name in imported {
@@ -216,14 +276,14 @@ impl UsedNames {
     }
 
     // Takes a name for a type.
-    fn take_type(&mut self, path: &[&[u8]]) -> Result<Vec<u8>, AllocError> {
-        let text = distinct(self.types.as_slice(), type_text(self.alloc, path));
+    fn take_type(&mut self, definition: &Definition<'_>) -> Result<Vec<u8>, AllocError> {
+        let text = distinct_type(self.types.as_slice(), type_text(self.alloc, definition));
         keep(&mut self.types, self.alloc, text)
     }
 
     // Takes a name for a file.
     fn take_file(&mut self, path: &[&[u8]]) -> Result<Vec<u8>, AllocError> {
-        let text = distinct(self.files.as_slice(), file_text(self.alloc, path));
+        let text = distinct_file(self.files.as_slice(), file_text(self.alloc, path));
         keep(&mut self.files, self.alloc, text)
     }
 
@@ -231,7 +291,7 @@ impl UsedNames {
     pub fn take_imported(&mut self, name: &[u8]) -> Result<Vec<u8>, AllocError>
         ensures { IfOk result (λ name. is_used self.old.types.items name.items ≡ false) }
     {
-        let text = distinct(self.types.as_slice(), imported_text(self.alloc, name));
+        let text = distinct_type(self.types.as_slice(), imported_text(self.alloc, name));
         keep(&mut self.types, self.alloc, text)
     }
 
@@ -245,7 +305,7 @@ impl UsedNames {
 
     /// The names of a definition.
     pub fn name(&mut self, definition: &Definition<'_>) -> Result<TypeName, AllocError> {
-        let name = self.take_type(definition.path.as_slice())?;
+        let name = self.take_type(definition)?;
         let file = self.take_file(definition.path.as_slice())?;
         let law = Vec::from_slice(self.alloc, file.as_slice())?;
         let tags = Vec::from_slice(self.alloc, definition.tags.as_slice())?;

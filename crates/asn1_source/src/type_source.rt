@@ -363,7 +363,7 @@ fn add_choice(
 ) -> Result<(), AllocError> {
     let alternatives = choice.alternatives.as_slice();
     let found = variant_names(alloc, alternatives, name.is_open)?;
-    let variants = variants_of(alloc, found, name.name.as_slice(), source.names)?;
+    let variants = variants_of(alloc, found.as_slice(), name.name.as_slice(), source.names)?;
     let of = choice_of(
         alternatives,
         variants.as_slice(),

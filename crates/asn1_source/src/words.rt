@@ -37,7 +37,7 @@ static RESERVED_IN_CLAUSES: [&str; 18] = [
 ];
 
 // Names that the sources themselves use.
-static TAKEN: [&str; 110] = [
+static TAKEN: [&str; 117] = [
     "ASN1Result",
     "Alternatives",
     "Any",
@@ -90,6 +90,7 @@ static TAKEN: [&str; 110] = [
     "IntegerFrom",
     "IntegerFromTo",
     "IntegerUpTo",
+    "IsTrue",
     "Iterator",
     "Known",
     "Last",
@@ -114,6 +115,7 @@ static TAKEN: [&str; 110] = [
     "Optional",
     "OrDefault",
     "Others",
+    "PartialEq",
     "Parts",
     "PartsBy",
     "Possible",
@@ -134,6 +136,9 @@ static TAKEN: [&str; 110] = [
     "SetParts",
     "Sides",
     "Signed",
+    "SizeFrom",
+    "SizeFromTo",
+    "SizeIs",
     "Some",
     "String",
     "Tag",
@@ -143,11 +148,23 @@ static TAKEN: [&str; 110] = [
     "TestedOctets",
     "TestedText",
     "TextValue",
+    "True",
     "Type",
     "Types",
     "UTCTime",
     "Universal",
+    "Unset",
     "Vec",
+];
+
+// Names in the specs of an ENUMERATED that a variant or the type may have.
+static SPECS_NAMES: [&str; 6] = [
+    "Bool",
+    "DetectsDefault",
+    "FitsSigned",
+    "List",
+    "Type",
+    "Unit",
 ];
 
 // Whether a text is in a list.
@@ -247,6 +264,11 @@ pub fn is_reserved(word: &[u8]) -> bool {
 /// Whether the sources themselves use the name of a type.
 pub fn is_taken(name: &[u8]) -> bool {
     is_among(TAKEN.as_slice(), name)
+}
+
+/// Whether the specs of an ENUMERATED bring in something of this name.
+pub fn is_specs_name(name: &[u8]) -> bool {
+    is_among(SPECS_NAMES.as_slice(), name)
 }
 
 /// Appends the name of a variant where a clause brings it in. `Type` is reserved there.

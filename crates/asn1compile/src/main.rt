@@ -187,11 +187,18 @@ fn compile<'a>(
     let definitions = resolved.definitions.as_slice();
     let alloc = rt.alloc();
     let imported = known_names(alloc, exports)?;
-    let names = names_of(alloc, definitions, resolved.tag_sets.as_slice(), imported)?;
+    let krate = options.krate().as_bytes();
+    let names = names_of(
+        alloc,
+        krate,
+        definitions,
+        resolved.tag_sets.as_slice(),
+        imported,
+    )?;
     let wanted = reached(alloc, definitions, options.types())?;
     let sources = module_sources(alloc, files, modules)?;
     let source = source_of(
-        options.krate().as_bytes(),
+        krate,
         sources.as_slice(),
         definitions,
         resolved.tag_sets.as_slice(),

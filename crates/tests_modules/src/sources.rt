@@ -72,6 +72,45 @@ static NAMES: [Row; 8] = [
     ),
 ];
 
+// Names that the sources or specs bring in, that of the crate, and those that a number would make the name of what another type has in a file.
+static TAKEN_NAMES: [Row; 7] = [
+    (
+        b"M DEFINITIONS ::= BEGIN Size-Is ::= SEQUENCE { a NULL } True ::= SEQUENCE { a NULL } Unset ::= SEQUENCE { a NULL } END",
+        "src/lib.rt",
+        "pub use size_is::SizeIsType;\npub use true_type::TrueType;\npub use unset::UnsetType;\n",
+    ),
+    (
+        b"M DEFINITIONS ::= BEGIN NonEmptyList ::= SEQUENCE { a NULL } Visible ::= SEQUENCE { a NULL } END",
+        "src/lib.rt",
+        "mod non_empty_list_type;\nmod visible_type;\n",
+    ),
+    (
+        b"M DEFINITIONS ::= BEGIN Bool ::= ENUMERATED { a } Lib ::= ENUMERATED { a } Unit ::= ENUMERATED { a } END",
+        "specs/Lib.antt",
+        "pub mod BoolType\npub mod LibType\npub mod UnitType\n",
+    ),
+    (
+        b"M DEFINITIONS ::= BEGIN Sample ::= SEQUENCE { a NULL } END",
+        "src/lib.rt",
+        "mod sample2;\n\npub use sample2::Sample;\n",
+    ),
+    (
+        b"M DEFINITIONS ::= BEGIN Foo-Parts ::= SEQUENCE { a NULL } FooParts ::= SEQUENCE { a NULL } END",
+        "src/lib.rt",
+        "pub use foo_parts::FooParts;\npub use foo_parts_type::FooPartsType;\n",
+    ),
+    (
+        b"M DEFINITIONS ::= BEGIN Pick ::= CHOICE { list NULL, listVariant BOOLEAN } END",
+        "src/pick.rt",
+        "TheVariants.{List as ListVariant2, ListVariant};\n",
+    ),
+    (
+        b"M DEFINITIONS ::= BEGIN Kind ::= ENUMERATED { list, listVariant } END",
+        "specs/Kind.antt",
+        "kind_number ListVariant2 = (pos 0)\nkind_number ListVariant = (pos 1)\n",
+    ),
+];
+
 // Constants that Rust writes in another way than the module: quotation marks, ends of lines, and a number that no `i64` holds.
 static CONSTANTS: [Row; 2] = [
     (
@@ -365,7 +404,7 @@ fn has_lines<'a>(
     let definitions = resolved.definitions.as_slice();
     let tags = resolved.tag_sets.as_slice();
     let imported = known_names(alloc, exports)?;
-    let names = names_of(alloc, definitions, tags, imported)?;
+    let names = names_of(alloc, b"sample", definitions, tags, imported)?;
     let wanted = reached(alloc, definitions, None)?;
     let mut sources = Vec::new(alloc);
     for tree in modules {
@@ -438,6 +477,7 @@ fn choices_are_written(rt: HostRuntime) {
 #[test]
 fn names_are_written(rt: HostRuntime) {
     assert!(rt; first_missing(rt.alloc(), &NAMES, &[]).is_none());
+    assert!(rt; first_missing(rt.alloc(), &TAKEN_NAMES, &[]).is_none());
     assert!(rt; first_missing(rt.alloc(), &CONSTANTS, &[]).is_none());
     assert!(rt; first_missing(rt.alloc(), &SHARED_CONSTANTS, &[]).is_none());
 }
