@@ -282,8 +282,8 @@ fn class_word(class: TagClass) -> &'static str {
     }
 }
 
-// Appends the implicit tag that waits at a type within its own tags, where `u` waits outside of them.
-fn put_waiting_tag(notation: &Notation, out: &mut Text) {
+/// Appends the implicit tag that waits at a type within its own tags, where `u` waits outside of them.
+pub fn put_waiting_tag(notation: &Notation, out: &mut Text) {
     out.repeat("(Some (tag_or ", count_tags(notation));
     out.say("u");
     let mut current = notation;
@@ -308,8 +308,8 @@ pub fn put_waiting_tags(tags: &[TagLayer], out: &mut Text) {
     }
 }
 
-// A term without the `_)` at its end. Other terms have none there, or begin with a lambda.
-fn before_tag(term: &[u8]) -> Option<&[u8]> {
+/// A term without the `_)` at its end. Other terms have none there, or begin with a lambda.
+pub fn before_tag(term: &[u8]) -> Option<&[u8]> {
     if !term.ends_with(b" _)") || term.starts_with("(λ".as_bytes()) {
         return None;
     }

@@ -1,6 +1,6 @@
 //! The source of a type that holds one value.
 
-use crate::alternatives::put_waiting_tags;
+use crate::alternatives::{before_tag, put_waiting_tag, put_waiting_tags};
 use crate::sequence_source::set_bodies;
 use crate::template::Fragments;
 use crate::templates::VALUE_BODIES;
@@ -53,13 +53,50 @@ fn set_rest(fragments: &mut Fragments, field: &[u8]) {
     set_bodies(&VALUE_BODIES, fragments);
 }
 
+// Whether a notation is a type with a name, under tags.
+fn is_named_under_tags(notation: &Notation) -> bool {
+    let mut current = notation;
+    while let Notation::Tagged(_, inner) = current {
+        current = &**inner;
+    }
+    match (notation, current) {
+        (Notation::Tagged(_, _), Notation::Defined(_) | Notation::Imported(_)) => true,
+        _ => false,
+    }
+}
+
+// A term that no encoding is empty, with the implicit tag that waits at a type with a name, which the checker doesn't find.
+fn with_waiting_tag(term: Text, notation: &Notation) -> Text {
+    let mut text = term.another();
+    let Some(before) = before_tag(term.as_slice()) else {
+        return term;
+    };
+    text.put(before);
+    put_waiting_tag(notation, &mut text);
+    text.say(")");
+    if term.is_cut() {
+        text.cut();
+    }
+    text
+}
+
+// Sets `Z` to the term that no encoding of a notation is empty.
+fn set_non_empty(fragments: &mut Fragments, notation: &Notation, names: &TypeNames) {
+    let mut term = fragments.text();
+    put_notation(notation, Aspect::NonEmpty, false, names, &mut term);
+    if is_named_under_tags(notation) {
+        term = with_waiting_tag(term, notation);
+    }
+    fragments.set(b'Z', term);
+}
+
 /// Sets the marks of a source to those of a type that holds one value of a notation.
 pub fn set_value(fragments: &mut Fragments, notation: &Notation, names: &TypeNames) {
     set_notation(fragments, b'T', notation, Aspect::Notation, names);
     set_notation(fragments, b'V', notation, Aspect::Value, names);
     set_notation(fragments, b'L', notation, Aspect::Law, names);
     set_notation(fragments, b'C', notation, Aspect::Written, names);
-    set_notation(fragments, b'Z', notation, Aspect::NonEmpty, names);
+    set_non_empty(fragments, notation, names);
     set_rest(
         fragments,
         if is_list(notation) {

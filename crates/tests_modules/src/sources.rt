@@ -342,7 +342,7 @@ const LEVEL: &[u8] =
     b"M DEFINITIONS ::= BEGIN Level ::= [APPLICATION 40] SEQUENCE { number INTEGER (5..9), name [1] IMPLICIT UTF8String OPTIONAL } END";
 
 // What is written beside the sources of a crate: the types that it exports, its tests, and edits that are wrong.
-static OTHER_FILES: [Row; 5] = [
+static OTHER_FILES: [Row; 7] = [
     (
         BADGE,
         "src/samples.rt",
@@ -367,6 +367,16 @@ static OTHER_FILES: [Row; 5] = [
         LEVEL,
         "must-fail/level_has_other_tags.edit",
         "new:         !<Notated as Notation>::has_tag(tag)\n",
+    ),
+    (
+        b"M DEFINITIONS IMPLICIT TAGS ::= BEGIN Pdu ::= SEQUENCE { number INTEGER } Get ::= [0] Pdu END",
+        "src/get.rt",
+        "    ghost non_empty = { λ u m v. (pdu_non_empty (Some (tag_or u (context 0)))) m v.value };\n",
+    ),
+    (
+        b"M DEFINITIONS IMPLICIT TAGS ::= BEGIN Pdu ::= SEQUENCE { number INTEGER } Get ::= [APPLICATION 3] [1] Pdu END",
+        "src/get.rt",
+        "    ghost non_empty = { λ u m v. (pdu_non_empty (Some (tag_or (Some (tag_or u (application 3))) (context 1)))) m v.value };\n",
     ),
 ];
 
