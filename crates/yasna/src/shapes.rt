@@ -91,8 +91,8 @@ where
         ensures { Prepends (Self.Shape.encoding out.old.mode (Self.shape_of self.now)) out.old out.new result }
     {
         let mut writer = out.writer();
-        self.encode_shape(&mut writer)?;
-        out.prepend_written(&mut writer)
+        let written = self.encode_shape(&mut writer);
+        out.prepend_written(writer, written)
     }
 
     /// The length of the encoding, if it is known, as `encoded_len` returns it.

@@ -79,8 +79,8 @@ pub trait DEREncodable {
         ensures { Prepends (encoding out.old.mode self.now) out.old out.new result }
     {
         let mut writer = out.writer();
-        self.encode_der(&mut writer)?;
-        out.prepend_written(&mut writer)
+        let written = self.encode_der(&mut writer);
+        out.prepend_written(writer, written)
     }
 
     /// The length of the encoding in a canonical mode, if it is known.

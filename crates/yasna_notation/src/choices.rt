@@ -83,8 +83,8 @@ pub trait Alternatives {
         ensures { Prepends (encoding_under under out.old.mode value.now) out.old out.new result }
     {
         let mut writer = out.writer_under(under);
-        Self::write(value, &mut writer)?;
-        out.prepend_written(&mut writer)
+        let written = Self::write(value, &mut writer);
+        out.prepend_written(writer, written)
     }
 
     /// The length of the encoding, if it is known, as `Notation::encoded_len`.

@@ -34,8 +34,8 @@ pub trait DefinedType: Sized + Drop {
         ensures { Prepends (Self.Notation.means.encoding_under under out.old.mode (value_of self.now)) out.old out.new result }
     {
         let mut writer = out.writer_under(under);
-        self.write_value(&mut writer)?;
-        out.prepend_written(&mut writer)
+        let written = self.write_value(&mut writer);
+        out.prepend_written(writer, written)
     }
 
     /// The length of the encoding, if it is known, as `Notation::encoded_len`.

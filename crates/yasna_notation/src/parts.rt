@@ -77,8 +77,8 @@ pub trait Parts {
         ensures { Prepends (encoding out.old.mode values.now) out.old out.new result }
     {
         let mut writer = out.writer();
-        Self::write_parts(values, &mut writer)?;
-        out.prepend_written(&mut writer)
+        let written = Self::write_parts(values, &mut writer);
+        out.prepend_written(writer, written)
     }
 
     /// The length of their encodings, one after the other, if it is known.
@@ -349,8 +349,8 @@ pub trait PartsBy<R> {
         ensures { Prepends (encoding_by out.old.mode (held fields.now)) out.old out.new result }
     {
         let mut writer = out.writer();
-        Self::write_each(fields, &mut writer)?;
-        out.prepend_written(&mut writer)
+        let written = Self::write_each(fields, &mut writer);
+        out.prepend_written(writer, written)
     }
 
     /// The length of their encodings, one after the other, if it is known.

@@ -2,7 +2,7 @@
 //!
 //! If the parts of an element are prepended, from the last to the first, its length is known when its header comes. So no byte is
 //! moved, and of an open element only the count of bytes after its contents is kept.
-ghost use Rattle.std.specs.Prelude.{◌≡◌, ◌≤◌, ◌-◌, ◌∷◌, [], ◌++◌, drop, length as count, MatchResult, IfOk};
+ghost use Rattle.std.specs.Prelude.{◌≡◌, ◌≤◌, ◌-◌, ◌∷◌, [], ◌++◌, drop, length as count, Err, MatchResult, IfOk};
 ghost use Rattle.yasna_base.specs.declared.error.ASN1ErrorKind.TheVariants.{OutOfMemory};
 ghost use Rattle.yasna_base.specs.Error.{kind_of};
 ghost use Rattle.yasna_writer.specs.Prepend.{HasRoom, nothing_prepended, PrependsAll, Prepends};
@@ -289,12 +289,21 @@ impl PrependBuffer {
         Writer::under(self.alloc, self.mode, under)
     }
 
-    /// Prepends the bytes of a writing. Nothing is written to what is left of it.
+    /// Prepends what was written to a writer of `writer` or `writer_under`. `written` is what the write returned: an `Err` is returned.
     ///
     /// An empty buffer takes the bytes over, and no byte is moved.
-    pub fn prepend_written(&mut self, writer: &mut Writer) -> ASN1Result<()>
-        ensures { Prepends writer.old.bytes self.old self.new result }
+    pub fn prepend_written(&mut self, writer: Writer, written: ASN1Result<()>) -> ASN1Result<()>
+        ensures { MatchResult written (λ _. Prepends writer.bytes self.old self.new result) (λ e. result ≡ Err e) }
     {
+        written?;
+        self.prepend_writing(writer)
+    }
+
+    // Prepends the bytes of a writing.
+    pub(crate) fn prepend_writing(&mut self, writer: Writer) -> ASN1Result<()>
+        ensures { Prepends writer.bytes self.old self.new result }
+    {
+        let mut writer = writer;
         let bytes = writer.take_bytes()?;
         if self.block.is_empty() {
             self.block = bytes;

@@ -61,7 +61,7 @@ impl PrependBuffer {
     {
         let mut writer = self.writer();
         writer.write_octets(tag, bytes)?;
-        self.prepend_written(&mut writer)
+        self.prepend_writing(writer)
     }
 
     /// Prepends a text in UTF-8 (X.690, 8.23).
@@ -92,7 +92,7 @@ impl PrependBuffer {
     {
         let mut writer = self.writer_under(Some(tag));
         writer.write_bitvec_bytes(bytes, len)?;
-        self.prepend_written(&mut writer)
+        self.prepend_writing(writer)
     }
 
     // Prepends bits as one primitive element.
