@@ -6,6 +6,9 @@
 # The first run proves all that they use. `rattle` builds only what is proved, so no run is without that.
 set -eu
 cd "$(dirname "$0")/.."
+case ${1:-} in
+    -*) echo "usage: sh ci/install.sh [PREFIX]" >&2; exit 2 ;;
+esac
 prefix=${1:-/usr/local}
 for program in asn1show asn1der asn1check asn1compile; do
     echo "$program: proved and built"
