@@ -6,7 +6,7 @@ ghost use Rattle.asn1_types.specs.Definitions.{AreResolved, Continues};
 use crate::constants::constants_of;
 use crate::model::{KnownType, Resolved};
 use crate::plain::at;
-use crate::problem::{ProblemKind, Stop, problem_of_two};
+use crate::problem::{ProblemKind, Rejection, Stop, problem_of_two, problems_of};
 use crate::resolver::{Resolver, new_resolver};
 use crate::scope::{AssignmentPlace, Scope, assigned_name, assignment_index};
 use crate::types::{MAX_DEPTH, assign};
@@ -30,11 +30,12 @@ fn check_name<'a>(
         return Ok(());
     };
     if first != place.assignment {
-        r.problems.push(problem_of_two(
-            at(place.module, name),
-            at(place.module, assigned_name(other)),
-            ProblemKind::AssignedTwice,
-        ))?;
+        let here = at(place.module, name);
+        let there = at(place.module, assigned_name(other));
+        r.rejections.push(Rejection {
+            name: here,
+            problem: problem_of_two(here, there, ProblemKind::AssignedTwice),
+        })?;
     }
     Ok(())
 }
@@ -79,7 +80,7 @@ fn resolved<'a>(alloc: Global, scope: Scope<'a>) -> Result<Resolved<'a>, Stop>
         resolve_module(&mut r, index, module)?;
     }
     let constants = constants_of(alloc, scope)?;
-    let mut problems = r.problems;
+    let mut problems = problems_of(alloc, r.rejections.as_slice())?;
     for problem in &constants.problems {
         problems.push(*problem)?;
     }

@@ -4,10 +4,10 @@ ghost use Rattle.asn1_types.specs.declared.problem.Stop.TheVariants.{Memory, Rej
 
 use crate::model::Place;
 use asn1_syntax::Token;
-use std::alloc::{AllocError, AllocFailed};
+use std::alloc::{AllocError, AllocFailed, Global};
 
 /// What is wrong with a module.
-#[derive(Clone, Copy)]
+#[derive(Clone, Copy, PartialEq)]
 pub enum ProblemKind {
     /// A name that the module neither assigns nor imports (X.680, 13.14).
     NotDefined,
@@ -58,6 +58,15 @@ pub struct Problem {
     pub kind: ProblemKind,
     /// A second place that has to do with it.
     pub other: Option<Place>,
+}
+
+/// An assignment that is rejected.
+#[derive(Clone, Copy)]
+pub struct Rejection {
+    /// Where the name that is assigned is.
+    pub name: Place,
+    /// Why it is rejected.
+    pub problem: Problem,
 }
 
 /// Why a type is not resolved.
@@ -112,6 +121,59 @@ pub fn problem_of_two(place: Place, other: Place, kind: ProblemKind) -> Problem 
         kind,
         other: Some(other),
     }
+}
+
+// Whether two problems are one.
+fn is_same(a: &Problem, b: &Problem) -> bool {
+    a.kind == b.kind && a.place.module == b.place.module && a.place.offset == b.place.offset
+}
+
+// How far a place is after another one, in the same module.
+fn distance(from: Place, to: Place) -> Option<usize> {
+    if from.module == to.module {
+        to.offset.checked_sub(from.offset)
+    } else {
+        None
+    }
+}
+
+// Whether the place of a problem is in the second of two assignments rather than in the first.
+fn is_nearer(problem: &Problem, first: Place, second: Place) -> bool {
+    match (
+        distance(first, problem.place),
+        distance(second, problem.place),
+    ) {
+        (Some(far), Some(near)) => near < far,
+        (None, Some(_)) => true,
+        _ => false,
+    }
+}
+
+// The problem of an assignment: that of another one, which it names, is not reported again.
+fn own_problem(rejection: &Rejection, all: &[Rejection]) -> Problem {
+    let is_of_another = all.iter().any(|other| {
+        is_same(&other.problem, &rejection.problem)
+            && is_nearer(&rejection.problem, rejection.name, other.name)
+    });
+    if is_of_another {
+        Problem {
+            place: rejection.name,
+            kind: ProblemKind::RejectedType,
+            other: None,
+        }
+    } else {
+        rejection.problem
+    }
+}
+
+/// Why assignments are rejected. One that has the parts of another one, or an alternative of it, has the problems in these: it is rejected for the
+/// other one then, as any type that names a rejected one.
+pub fn problems_of(alloc: Global, rejections: &[Rejection]) -> Result<Vec<Problem>, AllocError> {
+    let mut problems = Vec::new(alloc);
+    for rejection in rejections {
+        problems.push(own_problem(rejection, rejections))?;
+    }
+    Ok(problems)
 }
 
 /// What is wrong, in words.

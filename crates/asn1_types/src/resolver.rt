@@ -4,7 +4,7 @@ ghost use Rattle.asn1_types.specs.Context.{IsAdded, IsUnchanged, context_of};
 ghost use Rattle.asn1_types.specs.Tags.{environment_of};
 
 use crate::model::{Body, Definition, Loosening, Looser, NamedNumbers, Place, TagLayer};
-use crate::problem::{Problem, Stop};
+use crate::problem::{Rejection, Stop};
 use crate::scope::{AssignmentPlace, Scope, exports_name};
 use crate::tags_of_types::{TagSet, set_of_body};
 use asn1_syntax::Token;
@@ -41,8 +41,8 @@ pub struct Resolver<'a> {
     pub tag_sets: Vec<TagSet>,
     /// The names of numbers and bits.
     pub named_numbers: Vec<NamedNumbers<'a>>,
-    /// Why types are rejected.
-    pub problems: Vec<Problem>,
+    /// The assignments that are rejected.
+    pub rejections: Vec<Rejection>,
     /// The definition that is being resolved.
     pub work: Work<'a>,
 }
@@ -85,7 +85,7 @@ pub fn new_resolver<'a>(alloc: Global, scope: Scope<'a>) -> Result<Resolver<'a>,
         definitions: Vec::new(alloc),
         tag_sets: Vec::new(alloc),
         named_numbers: Vec::new(alloc),
-        problems: Vec::new(alloc),
+        rejections: Vec::new(alloc),
         work: Work {
             assignment: 0,
             is_exported: false,

@@ -20,7 +20,7 @@ use crate::enumerations::enumeration;
 use crate::model::{Body, Components, Definition, Notation, Part, Place};
 use crate::open_types::open_notation;
 use crate::plain::{at, builtin_notation, constrained, list_of, recursive, tagged};
-use crate::problem::{Problem, ProblemKind, Stop, problem_at};
+use crate::problem::{Problem, ProblemKind, Rejection, Stop, problem_at};
 use crate::resolver::{Resolver, State, add_definition, begin, set_state, state_of, take_looser};
 use crate::scope::{
     AssignmentPlace, Meaning, Scope, assigned_name, assignment_at, parameters_of, type_assigned,
@@ -342,6 +342,17 @@ pub fn assign<'a>(r: &mut Resolver<'a>, place: AssignmentPlace, depth: usize) ->
     conclude(r, place, outcome)
 }
 
+// Where the name of an assignment is.
+fn name_place<'a>(scope: Scope<'a>, place: AssignmentPlace) -> Place {
+    match assignment_at(scope.modules, place) {
+        Some(assignment) => at(place.module, assigned_name(assignment)),
+        None => Place {
+            module: place.module,
+            offset: 0,
+        },
+    }
+}
+
 // Records what an assignment is resolved to, or why it is rejected.
 fn conclude(
     r: &mut Resolver<'_>,
@@ -357,7 +368,8 @@ fn conclude(
         }
         Err(Stop::Rejected(problem)) => {
             set_state(r, place, State::Rejected);
-            r.problems.push(problem)?;
+            let name = name_place(r.scope, place);
+            r.rejections.push(Rejection { name, problem })?;
             Ok(())
         }
         Err(Stop::Memory) => Err(Stop::Memory),

@@ -115,6 +115,14 @@ static OPEN: [Row; 3] = [
     ),
 ];
 
+// Types that have parts, or an alternative, of a type that is rejected.
+static REJECTED: [Row; 1] = [
+    (
+        b"M DEFINITIONS ::= BEGIN IMPORTS F FROM N; A ::= SEQUENCE { COMPONENTS OF B, a NULL } B ::= SEQUENCE { b Foo } C ::= CHOICE { c Foo, d NULL } D ::= c < C E ::= d < C G ::= SEQUENCE { COMPONENTS OF F } END N DEFINITIONS ::= BEGIN F ::= SEQUENCE { f Foo } END",
+        "E. = NULL\n0:42: this type is rejected\n0:104: this name is neither assigned nor imported\n0:127: this name is neither assigned nor imported\n0:141: this type is rejected\n0:165: this type is rejected\n1:247: this name is neither assigned nor imported\n",
+    ),
+];
+
 // Whether modules are resolved to these lines, over the known types.
 fn are_resolved_to<'a>(
     alloc: Global,
@@ -171,6 +179,7 @@ fn values_and_constraints_are_resolved(rt: HostRuntime) {
 fn names_are_resolved(rt: HostRuntime) {
     assert!(rt; first_other(rt.alloc(), &NAMES, &[]).is_none());
     assert!(rt; first_other(rt.alloc(), &OPEN, &[]).is_none());
+    assert!(rt; first_other(rt.alloc(), &REJECTED, &[]).is_none());
 }
 
 static KNOWN: [KnownType<'static>; 1] = [KnownType {
