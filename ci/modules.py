@@ -1,8 +1,10 @@
-"""What ci/modules.sh runs: how asn1compile ends, what it prints, and which files it writes, on modules made here.
+"""What ci/modules.sh runs: how asn1compile ends, what it prints, and which files it writes, on modules made here. Each name that such files may bring in
+is one that no type and no file has.
 
 The arguments are the numbers of cases that passed and failed before.
 """
 
+import re
 import shutil
 import subprocess
 import sys
@@ -295,12 +297,27 @@ def comparisons(folder):
     yield "a file less", run(folder, *words)[0], 1
 
 
+def names(_folder):
+    """The names that sources bring in and that a type may have, and those of laws that are named as those of a type may be."""
+    folder = Path("crates/asn1_source/src")
+    words, naming, table, types = ((folder / f"{it}.rt").read_text() for it in ("words", "naming", "import_table", "type_imports"))
+    before, after = words.split("static TAKEN")
+    reserved, taken = (set(re.findall(r'"(\w+)"', it)) for it in (before, after.split("];")[0]))
+    kept = reserved | set(re.findall(r'"(\w+)"', naming.split("static LAW_NAMES")[1].split("];")[0]))
+    endings = re.findall(r'ending: "(\w+)"', types)
+    brought = {re.split("[=>]", it)[-1] for line in re.findall(r"^[\w:.]+: (.+)$", table, re.MULTILINE) for it in line.split()}
+    laws = {it.removesuffix(ending) for it in brought for ending in endings if it.endswith(ending)}
+    yield "names that sources bring in", len(brought) > 100, True
+    yield "those that a type may have", sorted(it for it in brought - taken if it[0].isupper()), []
+    yield "those that a law of a type may have", sorted(laws - kept), []
+
+
 def main(passed, failed):
     with tempfile.TemporaryDirectory() as room:
         folder = Path(room)
         for name, text in MODULES.items():
             (folder / f"{name}.asn1").write_text(text)
-        for cases in ends, crates, comparisons:
+        for cases in ends, crates, comparisons, names:
             for name, found, wanted in cases(folder):
                 if found == wanted:
                     passed += 1

@@ -97,9 +97,14 @@ fn is_piece(name: &[u8], untagged: &str, parts: &str, types: &str) -> bool {
     name.ends_with(untagged.as_bytes()) || has_numbered(name, parts) || has_numbered(name, types)
 }
 
-// Whether a type can't have a name: the sources have it. The type of a default has a name that ends in `Default`.
+// Whether a name may be that of the type of a default, or of its value in a clause.
+fn is_default_name(name: &[u8]) -> bool {
+    name.ends_with(b"Default") || name.ends_with(b"DefaultValue")
+}
+
+// Whether a type can't have a name: the sources have it.
 fn is_type_taken(name: &[u8]) -> bool {
-    is_taken(name) || name.ends_with(b"Default") || is_piece(name, "Untagged", "Parts", "Types")
+    is_taken(name) || is_default_name(name) || is_piece(name, "Untagged", "Parts", "Types")
 }
 
 // Whether the specs of an ENUMERATED can't have a name: their list has it, or what they bring in.

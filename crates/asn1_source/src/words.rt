@@ -37,7 +37,7 @@ static RESERVED_IN_CLAUSES: [&str; 18] = [
 ];
 
 // Names that the sources themselves use.
-static TAKEN: [&str; 117] = [
+static TAKEN: [&str; 119] = [
     "ASN1Result",
     "Alternatives",
     "Any",
@@ -83,6 +83,7 @@ static TAKEN: [&str; 117] = [
     "FromZero",
     "GeneralizedTime",
     "Global",
+    "HostRuntime",
     "Ia5String",
     "IdentifierValue",
     "Implicit",
@@ -155,6 +156,7 @@ static TAKEN: [&str; 117] = [
     "Universal",
     "Unset",
     "Vec",
+    "VisibleString",
 ];
 
 // Names in the specs of an ENUMERATED that a variant or the type may have.

@@ -30,7 +30,7 @@ ghost use Rattle.yasna_notation.specs.contracts.canonical.VisibleStringCanonical
 ghost use Rattle.yasna_notation_types.specs.contracts.bmp_string.BmpStringNotation.TheImpl.Laws.{lawful-law as bmp_law, non_empty-law as bmp_non_empty};
 ghost use Rattle.yasna_notation_types.specs.contracts.bmp_string.BmpStringCanonicalNotation.TheImpl.Laws.{written-law as bmp_written};
 ghost use Rattle.std.specs.Prelude.{[]};
-ghost use Rattle.pkix_implicit.specs.declared.display_text.DisplayText.TheVariants.{Ia5String as Ia5StringVariant, VisibleString, BmpString as BmpStringVariant, Utf8String};
+ghost use Rattle.pkix_implicit.specs.declared.display_text.DisplayText.TheVariants.{Ia5String as Ia5StringVariant, VisibleString as VisibleStringVariant, BmpString as BmpStringVariant, Utf8String};
 
 use yasna::{ASN1Result, BERMode, BERReader, DERWriter, PrependBuffer, Tag};
 use yasna_notation::Either::{First, Second};
@@ -65,7 +65,7 @@ pub enum DisplayText {
 impl Represents<Sides> for DisplayText {
     ghost value_of = { λ v. elim v [
       | Ia5StringVariant x ↦ First (x)
-      | VisibleString x ↦ Second (First (x))
+      | VisibleStringVariant x ↦ Second (First (x))
       | BmpStringVariant x ↦ Second (Second (First (x)))
       | Utf8String x ↦ Second (Second (Second (x)))
     ] };
@@ -160,7 +160,7 @@ impl Notation for DisplayText {
 
     ghost non_empty = { λ u m v. elim v as (λ k. ⟦<Notated as Notation>⟧.means.encoding_under u m (⟦<DisplayText as Represents<Sides>>⟧.value_of k) ≡ [] → ⊥) [
       | Ia5StringVariant x ↦ (ia5_non_empty u) m x
-      | VisibleString x ↦ (visible_non_empty u) m x
+      | VisibleStringVariant x ↦ (visible_non_empty u) m x
       | BmpStringVariant x ↦ (bmp_non_empty u) m x
       | Utf8String x ↦ (text_non_empty u) m x
     ] };

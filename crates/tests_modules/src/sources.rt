@@ -73,11 +73,16 @@ static NAMES: [Row; 8] = [
 ];
 
 // Names that the sources or specs bring in, that of the crate, and those that a number would make the name of what another type has in a file.
-static TAKEN_NAMES: [Row; 7] = [
+static TAKEN_NAMES: [Row; 8] = [
     (
         b"M DEFINITIONS ::= BEGIN Size-Is ::= SEQUENCE { a NULL } True ::= SEQUENCE { a NULL } Unset ::= SEQUENCE { a NULL } END",
         "src/lib.rt",
         "pub use size_is::SizeIsType;\npub use true_type::TrueType;\npub use unset::UnsetType;\n",
+    ),
+    (
+        b"M DEFINITIONS ::= BEGIN Visible-String ::= SEQUENCE { a VisibleString } Host-Runtime ::= SEQUENCE { a NULL } Kind-DefaultValue ::= SEQUENCE { a NULL } END",
+        "src/lib.rt",
+        "pub use host_runtime::HostRuntimeType;\npub use kind_default_value::KindDefaultValueType;\npub use visible_string::VisibleStringType;\n",
     ),
     (
         b"M DEFINITIONS ::= BEGIN NonEmptyList ::= SEQUENCE { a NULL } Visible ::= SEQUENCE { a NULL } END",
