@@ -106,13 +106,13 @@ def beside(files, homes, package):
 
 
 @cache
-def listed(program, files):
-    """What the program prints of these files on its two outputs, or None where it takes too long.
+def listed(command, files):
+    """What the command prints of these files on its two outputs, or None where it takes too long.
 
     Folders that import from one another have the same files, and share a run.
     """
     try:
-        ran = subprocess.run([program, "--list", "--use", "x509", *files], capture_output=True, timeout=SECONDS)
+        ran = subprocess.run([*command, "--list", "--use", "x509", *files], capture_output=True, timeout=SECONDS)
     except subprocess.TimeoutExpired:
         return None
     return ran.stdout.decode(errors="replace"), ran.stderr.decode(errors="replace")
@@ -123,36 +123,36 @@ def malformed(said):
     return {it["file"] for it in PLACE.finditer(said[1]) if it["why"].startswith("expected")}
 
 
-def resolved(program, files):
-    """What the program prints of these files but for those that aren't modules, and which are left."""
-    said = listed(program, files)
+def resolved(command, files):
+    """What the command prints of these files but for those that aren't modules, and which are left."""
+    said = listed(command, files)
     rejected = malformed(said) if said else set()
     parsed = tuple(it for it in files if str(it) not in rejected)
     if rejected:
-        said = listed(program, parsed) if parsed else ("", "")
+        said = listed(command, parsed) if parsed else ("", "")
     return said, parsed
 
 
-def own_lines(program, said, own, others):
+def own_lines(command, said, own, others):
     """The lines of the types of these files, where the types of the others are listed with them."""
     assigned = names_in(ASSIGNED, own)
     lines = Counter(it[0] for it in LISTED.finditer(said[0]) if it["name"] in assigned)
     if assigned & names_in(ASSIGNED, others):
-        alone = listed(program, tuple(others))
+        alone = listed(command, tuple(others))
         lines -= Counter(it[0] for it in LISTED.finditer(alone[0] if alone else ""))
     return list(lines.elements())
 
 
-def count_folder(program, counts, files, homes, package):
+def count_folder(command, counts, files, homes, package):
     """Counts the types of the modules of a folder."""
     counts.files += len(files)
-    said, parsed = resolved(program, tuple(sorted(files + beside(files, homes, package))))
+    said, parsed = resolved(command, tuple(sorted(files + beside(files, homes, package))))
     own = [it for it in parsed if it in files]
     counts.parsed += len(own)
     if said is None:
         counts.reasons[f"no end after {SECONDS} seconds"] += 1
         return
-    for line in own_lines(program, said, own, [it for it in parsed if it not in files]):
+    for line in own_lines(command, said, own, [it for it in parsed if it not in files]):
         counts.exact += ": exact" in line
         counts.more += ": accepts more" in line
         counts.closed += ": rejects additions" in line
@@ -163,13 +163,13 @@ def count_folder(program, counts, files, homes, package):
             (counts.reasons if is_type else counts.values)[it["why"]] += 1
 
 
-def count_package(program, package, homes):
+def count_package(command, package, homes):
     """What is said of the modules below a folder, by their encoding. Standard error has the counts so far, after each folder with modules."""
     found = defaultdict(Counts)
     files = sorted(it for it in package.rglob("*") if is_module_file(it))
     for folder in sorted({it.parent for it in files}):
         counts = found[encoding_of(folder)]
-        count_folder(program, counts, [it for it in files if it.parent == folder], homes, package)
+        count_folder(command, counts, [it for it in files if it.parent == folder], homes, package)
         print(f"{folder}: {counts}", file=sys.stderr, flush=True)
     return found
 
@@ -186,11 +186,12 @@ def is_module_file(path):
     return path.suffix.lower() in ENDINGS and path.is_file()
 
 
-def main(program, folder):
+def main(program, folder, *options):
+    command = (program, *options)
     packages = sorted(it for it in Path(folder).iterdir() if it.is_dir())
     homes = homes_of(sorted(it for it in Path(folder).rglob("*") if is_module_file(it)))
     with ThreadPoolExecutor(2) as pool:
-        found = list(pool.map(lambda it: count_package(program, it, homes), packages))
+        found = list(pool.map(lambda it: count_package(command, it, homes), packages))
     rows = [(package.name, encoding, it) for package, counts in zip(packages, found) for encoding, it in counts.items()]
     print("\n| Package | Encoding | Files | Parsed | Types exact | Types that accept more | Others that reject additions | Rejected |\n|---|---|---|---|---|---|---|---|")
     for name, encoding, it in rows:

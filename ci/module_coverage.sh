@@ -2,8 +2,9 @@
 # How many of the modules in packages of Debian asn1compile reads, and how many of their types it takes: three tables, for docs/MODULES.md. The gate
 # doesn't run this.
 #
-#   sh ci/module_coverage.sh [FOLDER]
+#   sh ci/module_coverage.sh [FOLDER [--incomplete]]
 #
+# With `--incomplete` asn1compile takes any element for a type that no module gives.
 # The packages are downloaded by apt-get into FOLDER, or a folder that is removed afterwards; what is in FOLDER already is not downloaded again.
 # What runs is asn1compile as LLVM builds it, which is proved and built first where it isn't there or a source is newer.
 set -eu
@@ -13,6 +14,7 @@ trap 'rm -rf "$work"' EXIT
 . ci/common.sh
 build asn1compile
 folder=$(realpath "${1:-$work}")
+[ $# = 0 ] || shift
 codename=$(. /etc/os-release && echo "$VERSION_CODENAME")
 
 # Runs apt-get with lists of its own, which name sources too.
@@ -51,4 +53,4 @@ for package in erlang-src snacc; do
 done
 (cd "$folder" && find . -maxdepth 1 -name '*.orig.tar.*' ! -name '*.asc' -o -maxdepth 1 -name '*.deb') |
     sed -e 's|^\./||' -e 's|\.orig\.tar\.[a-z0-9]*$||' -e 's|_[a-z0-9]*\.deb$||' -e 's|%3a|:|' | sort | tr '_' ' '
-python3 ci/module_coverage.py "$program" "$work/modules"
+python3 ci/module_coverage.py "$program" "$work/modules" "$@"

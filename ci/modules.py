@@ -69,6 +69,13 @@ Code ::= SEQUENCE {
     first Missing }
 END
 """
+INCOMPLETE = """Incomplete DEFINITIONS IMPLICIT TAGS ::= BEGIN
+IMPORTS Other FROM Elsewhere;
+Code ::= SEQUENCE { first Missing, second [1] EXPLICIT Other }
+Tagged ::= SEQUENCE {
+    third [2] Missing }
+END
+"""
 WIDE = """Wide DEFINITIONS ::= BEGIN
 Badge ::= SET { number INTEGER, flag BOOLEAN, ... }
 Shape ::= CHOICE { size INTEGER, ... }
@@ -129,6 +136,7 @@ Around.outer: exact, canonical
 Around: accepts more: the components of a SET with a CHOICE whose tags are around that of another part aren't read
 Element: accepts more: the components of a SET with a part that may be any element aren't read
 """
+INCOMPLETE_LISTED = "Code: accepts more\n"
 REPORT_LISTED = "Report.choice: exact, canonical\nReport: exact, canonical\n"
 # The notations of the parts of a SET.
 MIXED = """type Parts = (Default<Implicit<Universal<1>, bool>, Unset>, (Implicit<Universal<4>, Vec<u8>>, (Default<Implicit<Universal<10>, Named<Kind>>, \
@@ -183,6 +191,26 @@ IS_UNKNOWN = """unknown.asn1:4:11: this name is neither assigned nor imported
         first Missing }
               ^
 """
+IS_INCOMPLETE = """incomplete.asn1:3:27: this name is neither assigned nor imported
+    Code ::= SEQUENCE { first Missing, second [1] EXPLICIT Other }
+                              ^
+"""
+IS_TAGGED = """incomplete.asn1:5:15: this name is neither assigned nor imported
+        third [2] Missing }
+                  ^
+"""
+IS_ANY = """incomplete.asn1:3:27: a type that no module gives is any element
+    Code ::= SEQUENCE { first Missing, second [1] EXPLICIT Other }
+                              ^
+incomplete.asn1:3:56: a type that no module gives is any element
+    Code ::= SEQUENCE { first Missing, second [1] EXPLICIT Other }
+                                                           ^
+"""
+ANY_HEAD = """//! It accepts more than the module says:
+//!
+//! - a type that no module gives is any element.
+//! - a type that no module gives is any element.
+"""
 IS_NO_LIST = "crates/some/exports: it isn't a list of types\n"
 EXPORTS = """Second Alone alone Alone U16 canonical
 Second Flags flags Flags U16 canonical
@@ -208,6 +236,7 @@ MODULES = {
     "loose": LOOSE,
     "malformed": MALFORMED,
     "unknown": UNKNOWN,
+    "incomplete": INCOMPLETE,
     "wide": WIDE,
     "defaults": DEFAULTS,
     "sets": SETS,
@@ -241,6 +270,10 @@ def ends(folder):
     yield "defaults", run(folder, "--list", "--strict", "defaults.asn1"), (1, f"{LABEL}{OPEN}", IS_UNTESTED)
     yield "what isn't ASN.1", run(folder, "--list", "malformed.asn1"), (1, "", IS_MALFORMED)
     yield "a name that isn't defined", run(folder, "--list", "unknown.asn1"), (1, KNOWN, IS_UNKNOWN)
+    yield "names that aren't defined", run(folder, "--list", "incomplete.asn1"), (1, "", f"{IS_INCOMPLETE}{IS_TAGGED}")
+    yield "they as any element", run(folder, "--list", "--incomplete", "incomplete.asn1"), (1, INCOMPLETE_LISTED, IS_TAGGED)
+    words = ("--list", "--incomplete", "--strict", "--type", "Code", "incomplete.asn1")
+    yield "they with --strict", run(folder, *words), (1, INCOMPLETE_LISTED, f"{IS_TAGGED}{IS_ANY}")
     yield "a type that isn't there", run(folder, "--list", "--type", "Missing", "first.asn1", "second.asn1"), (1, "", IS_MISSING)
     yield "a file that isn't there", run(folder, "--list", "missing.asn1")[0], 3
     yield "no file", run(folder, "--list")[0], 2
@@ -273,6 +306,8 @@ def crates(folder):
     yield "those that follow", MIXED_REST in (out / "sets/src/mixed_parts2.rt").read_text(), True
     yield "the parts of one that are tagged automatically", REPORT_PARTS in (out / "sets/src/report.rt").read_text(), True
     yield "a CHOICE in a SET", PICKED in (out / "sets/src/pick.rt").read_text(), True
+    yield "a crate with such types", run(folder, "--crate", "open", "--incomplete", "incomplete.asn1")[0], 1
+    yield "what it accepts more", ANY_HEAD in (out / "open/src/code.rt").read_text(), True
     yield "what is rejected with --strict", run(folder, "--crate", "none", "--strict", "loose.asn1")[0], 1
     yield "no file of it", written(out / "none"), []
 

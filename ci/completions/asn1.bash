@@ -6,7 +6,7 @@ _asn1() {
         *asn1show) options='--ber --der --cer --hex --pem --bytes --check --depth --at --extract --contents --dump --json --html --module --type --decimal --width --help --version' ;;
         *asn1der) options='--strict --hex --bytes --pem --module --type --help --version' ;;
         *asn1check) options='--ber --der --hex --pem --bytes --module --type --encode --help --version' ;;
-        *asn1compile) options='--crate --out --type --use --list --check --tests --strict --help --version' ;;
+        *asn1compile) options='--crate --out --type --use --list --check --tests --incomplete --strict --help --version' ;;
     esac
     local kinds='certificate crl csr public-key private-key rsa-public-key rsa-private-key ec-private-key cms snmp-v1 snmp-v2c ldap ocsp-request ocsp-response tsp-request tsp-response any'
     if [[ $word == -* ]]; then

@@ -26,7 +26,8 @@
 //!   own notation. A parameter is any element, and so is a field of a class whose type has none of four words. A type inside itself has the elements
 //!   of what its name means, under the tag before it.
 //!
-//! The last of these leaves open which one-word names are parameters, which type a field of a class has, and the items of an ENUMERATED.
+//! The last of these leaves open which one-word names are parameters, or types that no module gives, which type a field of a class has, and the items of
+//! an ENUMERATED.
 //!
 //! Only tested are these, and what constraints are resolved to, and values but the numbers of tags.
 //!
@@ -49,7 +50,7 @@
 //! | `resolver` | what is known while types are resolved |
 //! | `named_numbers` | the names in the braces of an INTEGER or a BIT STRING |
 //! | `plain` | types in which no other type is, tags, and constraints |
-//! | `open_types` | parameters, and fields of classes |
+//! | `open_types` | parameters, fields of classes, and types that no module gives |
 //! | `bodies` | SEQUENCEs, SETs and CHOICEs |
 //! | `types` | types, of whatever depth |
 //! | `constants` | the values that have a name |
@@ -79,6 +80,6 @@ mod tokens;
 mod types;
 mod values;
 
-pub use modules::resolve;
+pub use modules::{resolve, resolve_incomplete};
 pub use problem::{Problem, ProblemKind, problem_text};
 pub use tags_of_types::TagSet;

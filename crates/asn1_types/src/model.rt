@@ -368,6 +368,8 @@ pub enum Loosening {
     OpenType,
     /// A parameter, which is any type.
     Parameter,
+    /// A type that no module gives, which is any element.
+    Missing,
     /// A DEFAULT without a `DefaultValue`: that it is omitted is not tested.
     Default,
     /// A type inside itself, whose elements are kept as they came.

@@ -71,11 +71,11 @@ fn resolve_module<'a>(
     Ok(())
 }
 
-// The types and values of modules, unless memory runs out.
-fn resolved<'a>(alloc: Global, scope: Scope<'a>) -> Result<Resolved<'a>, Stop>
+// The types and values of modules, unless memory runs out. `is_incomplete`: a type that no module gives is any element.
+fn resolved<'a>(alloc: Global, scope: Scope<'a>, is_incomplete: bool) -> Result<Resolved<'a>, Stop>
     ensures { IfOk result (λ x. AreResolved (resolved_of scope.entry.modules.now scope.entry.known.now x)) }
 {
-    let mut r = new_resolver(alloc, scope)?;
+    let mut r = new_resolver(alloc, scope, is_incomplete)?;
     for (index, module) in scope.modules.iter().enumerate() {
         resolve_module(&mut r, index, module)?;
     }
@@ -103,7 +103,23 @@ pub fn resolve<'a>(
 ) -> Result<Resolved<'a>, AllocError>
     ensures { IfOk result (λ x. AreResolved (resolved_of modules.now known.now x)) }
 {
-    match resolved(alloc, Scope { modules, known }) {
+    match resolved(alloc, Scope { modules, known }, false) {
+        Ok(resolved) => Ok(resolved),
+        Err(_) => Err(AllocError),
+    }
+}
+
+/// As `resolve`, of modules that aren't all given. Where a type is a name of one word that no module gives, it is any element, and a `Looser` says so.
+///
+/// Such a name is rejected under an IMPLICIT or automatic tag, after COMPONENTS OF and in a selection.
+pub fn resolve_incomplete<'a>(
+    alloc: Global,
+    modules: &'a [Module<'a>],
+    known: &'a [KnownType<'a>],
+) -> Result<Resolved<'a>, AllocError>
+    ensures { IfOk result (λ x. AreResolved (resolved_of modules.now known.now x)) }
+{
+    match resolved(alloc, Scope { modules, known }, true) {
         Ok(resolved) => Ok(resolved),
         Err(_) => Err(AllocError),
     }

@@ -1,13 +1,13 @@
-//! Types that a module leaves open: parameters (X.683), and fields of classes (X.681).
+//! Types that a module leaves open: parameters (X.683), fields of classes (X.681), and those that no module gives.
 ghost use Rattle.std.specs.Prelude.{IfOk, IfSome};
 ghost use Rattle.asn1_types.specs.Context.{IsUnchanged};
 ghost use Rattle.asn1_types.specs.Notations.{IsOfField, IsOpenType};
 
 use crate::builtins::{Builtin, builtin_of};
-use crate::cores::{TypeAt, place_of};
+use crate::cores::{TypeAt, assigned_type, place_of};
 use crate::integers::UNBOUNDED;
 use crate::model::{Loosening, Notation};
-use crate::problem::Stop;
+use crate::problem::{Problem, ProblemKind, Stop, problem_at};
 use crate::resolver::{Resolver, note};
 use crate::scope::{Meaning, Scope, assignment_at, meaning_of};
 use crate::tokens::{has_text, is};
@@ -71,7 +71,37 @@ fn is_parameter(parameters: &[Token<'_>], name: &[u8]) -> bool {
     !matches!(rest, [_, colon, ..] if is(*colon, b":"))
 }
 
-/// The notation of a parameter or a field of a class. `None` is another type.
+// Whether a name with this problem is one that no module gives.
+fn is_missing(kind: ProblemKind) -> bool {
+    matches!(
+        kind,
+        ProblemKind::NotDefined | ProblemKind::ModuleMissing | ProblemKind::NotExported
+    )
+}
+
+// Why a name is that of no type, if no module gives one.
+fn missing<'a>(scope: Scope<'a>, module: usize, name: Token<'a>) -> Option<Problem> {
+    match meaning_of(scope, module, name) {
+        Ok(Meaning::Known(_)) => None,
+        Ok(Meaning::Assigned(place)) => match assigned_type(scope, place) {
+            Some(_) => None,
+            None => Some(problem_at(module, name, ProblemKind::WrongAssignment)),
+        },
+        Err(problem) if is_missing(problem.kind) => Some(problem),
+        Err(_) => None,
+    }
+}
+
+// As `missing`, where such a type is any element.
+fn missing_here<'a>(r: &Resolver<'a>, module: usize, name: Token<'a>) -> Option<Problem> {
+    if r.is_incomplete {
+        missing(r.scope, module, name)
+    } else {
+        None
+    }
+}
+
+/// The notation of a parameter, of a field of a class, or of a type that no module gives. `None` is another type.
 pub fn open_notation<'a>(
     r: &mut Resolver<'a>,
     at: TypeAt<'a>,
@@ -80,6 +110,7 @@ pub fn open_notation<'a>(
     ensures unchanged { IsUnchanged r.old r.new }
     ensures left_open { IfOk result (λ found. IfSome found (IsOpenType plain.now.words.items)) }
 {
+    r.work.missing = None;
     match plain.words.as_slice() {
         [name] if is_parameter(r.work.parameters, name.text) => {
             note(r, place_of(at), Loosening::Parameter)?;
@@ -91,6 +122,14 @@ pub fn open_notation<'a>(
                 note(r, place_of(at), Loosening::OpenType)?;
             }
             Ok(Some(notation))
+        }
+        [name] => {
+            r.work.missing = missing_here(r, at.module, *name);
+            if r.work.missing.is_none() {
+                return Ok(None);
+            }
+            note(r, place_of(at), Loosening::Missing)?;
+            Ok(Some(Notation::Any))
         }
         _ => Ok(None),
     }

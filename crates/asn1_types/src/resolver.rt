@@ -4,7 +4,7 @@ ghost use Rattle.asn1_types.specs.Context.{IsAdded, IsUnchanged, context_of};
 ghost use Rattle.asn1_types.specs.Tags.{environment_of};
 
 use crate::model::{Body, Definition, Loosening, Looser, NamedNumbers, Place, TagLayer};
-use crate::problem::{Rejection, Stop};
+use crate::problem::{Problem, Rejection, Stop};
 use crate::scope::{AssignmentPlace, Scope, exports_name};
 use crate::tags_of_types::{TagSet, set_of_body};
 use asn1_syntax::Token;
@@ -33,6 +33,8 @@ pub struct Resolver<'a> {
     pub alloc: Global,
     /// The modules.
     pub scope: Scope<'a>,
+    /// Whether a type that no module gives is any element. Else it is rejected.
+    pub is_incomplete: bool,
     /// How far each assignment of each module is resolved.
     pub states: Vec<Vec<State>>,
     /// The definitions.
@@ -60,6 +62,8 @@ pub struct Work<'a> {
     pub path: Vec<&'a [u8]>,
     /// Where its notation accepts more than the module says.
     pub looser: Vec<Looser>,
+    /// Why the last type that was named is missing, if no module gives it and it is any element.
+    pub missing: Option<Problem>,
 }
 
 // A state for each assignment of a module.
@@ -67,8 +71,12 @@ fn unresolved(alloc: Global, module: &Module<'_>) -> Result<Vec<State>, AllocErr
     vec![in alloc; State::Unresolved; module.assignments.len()]
 }
 
-/// What is known before any type is resolved.
-pub fn new_resolver<'a>(alloc: Global, scope: Scope<'a>) -> Result<Resolver<'a>, Stop>
+/// What is known before any type is resolved. `is_incomplete`: a type that no module gives is any element.
+pub fn new_resolver<'a>(
+    alloc: Global,
+    scope: Scope<'a>,
+    is_incomplete: bool,
+) -> Result<Resolver<'a>, Stop>
     ensures scope { IfOk result (λ r. r.scope ≡ scope.entry) }
     ensures definitions { IfOk result (λ r. r.definitions.items ≡ []) }
     ensures sets { IfOk result (λ r. r.tag_sets.items ≡ []) }
@@ -81,6 +89,7 @@ pub fn new_resolver<'a>(alloc: Global, scope: Scope<'a>) -> Result<Resolver<'a>,
     Ok(Resolver {
         alloc,
         scope,
+        is_incomplete,
         states,
         definitions: Vec::new(alloc),
         tag_sets: Vec::new(alloc),
@@ -92,6 +101,7 @@ pub fn new_resolver<'a>(alloc: Global, scope: Scope<'a>) -> Result<Resolver<'a>,
             parameters: &[],
             path: Vec::new(alloc),
             looser: Vec::new(alloc),
+            missing: None,
         },
     })
 }
@@ -160,6 +170,7 @@ pub fn begin<'a>(
         parameters,
         path,
         looser: Vec::new(r.alloc),
+        missing: None,
     };
     Ok(std::mem::replace(&mut r.work, work))
 }

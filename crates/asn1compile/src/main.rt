@@ -25,8 +25,9 @@ use asn1_source::{
     known_names, known_types, list_of, mutants_of, names_of, reached, source_of, sources_of,
     tests_of,
 };
+use asn1_syntax::tree::Module;
 use asn1_types::model::{Definition, KnownType, Resolved};
-use asn1_types::resolve;
+use asn1_types::{resolve, resolve_incomplete};
 use exports::{ExportsFile, parse_exports, read_exports};
 use module_files::{ModuleFile, Modules, parse_files, read_files, report_problems};
 use options::{Options, options_of};
@@ -229,6 +230,20 @@ fn run_resolved<'a>(
     }
 }
 
+// The types of modules over those of other crates, where a type that no module gives is rejected or any element.
+fn resolve_all<'a>(
+    alloc: Global,
+    options: &Options<'_>,
+    modules: &'a [Module<'a>],
+    known: &'a [KnownType<'a>],
+) -> Result<Resolved<'a>, AllocError> {
+    if options.incomplete {
+        resolve_incomplete(alloc, modules, known)
+    } else {
+        resolve(alloc, modules, known)
+    }
+}
+
 // Resolves modules over the types that they import of other crates, compiles them, and returns the status.
 fn run_known<'a>(
     rt: &HostRuntime,
@@ -238,7 +253,7 @@ fn run_known<'a>(
     exports: &'a [Export<'a>],
     known: &'a [KnownType<'a>],
 ) -> u8 {
-    match resolve(rt.alloc(), modules.modules.as_slice(), known) {
+    match resolve_all(rt.alloc(), options, modules.modules.as_slice(), known) {
         Ok(resolved) => run_resolved(rt, options, files, modules, exports, &resolved),
         Err(_) => ProgramError::Memory.report(rt),
     }

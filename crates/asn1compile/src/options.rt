@@ -13,6 +13,8 @@ pub struct Options<'a> {
     pub check: bool,
     /// Whether a type is rejected that accepts more than its module.
     pub strict: bool,
+    /// Whether a type that no module gives is any element.
+    pub incomplete: bool,
     /// Whether a crate of tests is written too.
     pub tests: bool,
     matches: ArgMatches<'a>,
@@ -51,6 +53,8 @@ Each type is a notation of `yasna_notation`, and `rt check` proves what it accep
 const CHECK_HELP: &str = "Compare with the crate that is there, and write nothing";
 
 const TESTS_HELP: &str = "Write a crate of tests too, and edits that the prover has to reject";
+
+const INCOMPLETE_HELP: &str = "Take any element for a type that no module gives";
 
 const STRICT_HELP: &str = "Reject a type that accepts more than its module";
 
@@ -134,6 +138,7 @@ fn all_args<'a>(alloc: Global) -> Result<Vec<Arg<'a>>, AllocError> {
     args.push(list_flag(alloc, &["check"])?)?;
     args.push(flag(alloc, "check", CHECK_HELP))?;
     args.push(tests_flag(alloc, &["list", "check"])?)?;
+    args.push(flag(alloc, "incomplete", INCOMPLETE_HELP))?;
     args.push(flag(alloc, "strict", STRICT_HELP))?;
     args.push(files_arg(alloc))?;
     Ok(args)
@@ -154,12 +159,14 @@ pub fn options_of<'a>(alloc: Global, words: &'a [String]) -> Result<Options<'a>,
     let matches = command.try_get_matches_from_mut(words)?;
     let list = matches.get_flag("list");
     let check = matches.get_flag("check");
+    let incomplete = matches.get_flag("incomplete");
     let strict = matches.get_flag("strict");
     let tests = matches.get_flag("tests");
     Ok(Options {
         list,
         check,
         strict,
+        incomplete,
         tests,
         matches,
     })

@@ -262,6 +262,7 @@ fn loosening_word(what: Loosening) -> &'static str {
         Loosening::Contents => " !contents",
         Loosening::OpenType => " !open",
         Loosening::Parameter => " !parameter",
+        Loosening::Missing => " !missing",
         Loosening::Default => " !default",
         Loosening::Recursion => " !recursion",
         Loosening::Characters => " !characters",

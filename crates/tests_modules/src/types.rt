@@ -3,9 +3,9 @@
 use crate::described::described;
 use asn1_syntax::parse;
 use asn1_syntax::tree::Module;
-use asn1_types::model::{KnownType, Tag, TagClass};
-use asn1_types::resolve;
-use std::alloc::Global;
+use asn1_types::model::{KnownType, Resolved, Tag, TagClass};
+use asn1_types::{resolve, resolve_incomplete};
+use std::alloc::{AllocError, Global};
 use std::process::Abort;
 
 /// A source, and a line for each definition, constant and problem.
@@ -115,22 +115,67 @@ static OPEN: [Row; 3] = [
     ),
 ];
 
-// Types that have parts, or an alternative, of a type that is rejected.
-static REJECTED: [Row; 1] = [
+const NAMING: &[u8] =
+    b"M DEFINITIONS ::= BEGIN IMPORTS B FROM N C FROM O; A ::= SEQUENCE { a Foo, b B, c [0] C, d D } E ::= Foo D ::= CLASS { &x INTEGER } F ::= SEQUENCE { f E OPTIONAL } END O DEFINITIONS ::= BEGIN EXPORTS ; C ::= NULL END";
+
+// Types that have parts, or an alternative, of a type that is rejected, and types that no module gives.
+static REJECTED: [Row; 2] = [
     (
         b"M DEFINITIONS ::= BEGIN IMPORTS F FROM N; A ::= SEQUENCE { COMPONENTS OF B, a NULL } B ::= SEQUENCE { b Foo } C ::= CHOICE { c Foo, d NULL } D ::= c < C E ::= d < C G ::= SEQUENCE { COMPONENTS OF F } END N DEFINITIONS ::= BEGIN F ::= SEQUENCE { f Foo } END",
         "E. = NULL\n0:42: this type is rejected\n0:104: this name is neither assigned nor imported\n0:127: this name is neither assigned nor imported\n0:141: this type is rejected\n0:165: this type is rejected\n1:247: this name is neither assigned nor imported\n",
     ),
+    (
+        NAMING,
+        "C. private = NULL\n0:70: this name is neither assigned nor imported\n0:101: this name is neither assigned nor imported\n0:151: this type is rejected\n",
+    ),
 ];
+
+// Types that no module gives, as any element, and where they are rejected: under an IMPLICIT tag, an automatic one, after COMPONENTS OF, in a selection,
+// and after the name of a module.
+static INCOMPLETE: [Row; 3] = [
+    (
+        NAMING,
+        "A. SEQUENCE a ANY, b ANY, c [0 E] ANY, d ANY, !missing !missing !missing !missing\nE. = ANY !missing\nF. SEQUENCE f ANY OPTIONAL, !missing\nC. private = NULL\n",
+    ),
+    (
+        b"M DEFINITIONS IMPLICIT TAGS ::= BEGIN A ::= SEQUENCE { a [0] Foo } B ::= [1] EXPLICIT Foo C ::= SEQUENCE { c [2] B, d [3] SEQUENCE OF Foo } D ::= CHOICE { e [4] E } E ::= Foo F ::= SEQUENCE { f Foo, g [5] ANY } END N DEFINITIONS AUTOMATIC TAGS ::= BEGIN A ::= SEQUENCE { a Foo } B ::= SEQUENCE { b [0] EXPLICIT Foo } END",
+        "B. = [1 E] ANY !missing\nC. SEQUENCE c [2 I] [1 E] ANY, d [3 I] SEQUENCE OF ANY, !missing !missing\nE. = ANY !missing\nF. SEQUENCE f ANY, g [5 E] ANY, !missing\nB. SEQUENCE b [0 E] ANY, !missing\n0:61: this name is neither assigned nor imported\n0:171: this name is neither assigned nor imported\n1:273: this name is neither assigned nor imported\n",
+    ),
+    (
+        b"M DEFINITIONS ::= BEGIN A {X} ::= SEQUENCE { a X } B ::= A {NULL} C ::= Foo {NULL} D ::= SEQUENCE { COMPONENTS OF Foo } E ::= e < Foo F ::= SEQUENCE { f N.Foo } END",
+        "A. SEQUENCE a ANY, !parameter\nB. = #0\nC. = ANY !missing\n0:114: this name is neither assigned nor imported\n0:130: this name is neither assigned nor imported\n0:155: this name is of a module that is not given\n",
+    ),
+];
+
+// Whether all modules are given.
+#[derive(Clone, Copy)]
+enum Given {
+    All,
+    Part,
+}
+
+// The types of modules.
+fn resolved<'a>(
+    alloc: Global,
+    modules: &'a [Module<'a>],
+    known: &'a [KnownType<'a>],
+    given: Given,
+) -> Result<Resolved<'a>, AllocError> {
+    match given {
+        Given::All => resolve(alloc, modules, known),
+        Given::Part => resolve_incomplete(alloc, modules, known),
+    }
+}
 
 // Whether modules are resolved to these lines, over the known types.
 fn are_resolved_to<'a>(
     alloc: Global,
     modules: &'a [Module<'a>],
     known: &'a [KnownType<'a>],
+    given: Given,
     lines: &str,
 ) -> bool {
-    match resolve(alloc, modules, known) {
+    match resolved(alloc, modules, known, given) {
         Ok(resolved) => described(alloc, &resolved).text.as_str() == lines,
         Err(_) => false,
     }
@@ -141,10 +186,11 @@ fn is_resolved_to<'a>(
     alloc: Global,
     source: &'a [u8],
     known: &'a [KnownType<'a>],
+    given: Given,
     lines: &str,
 ) -> bool {
     match parse(alloc, source) {
-        Ok(modules) => are_resolved_to(alloc, modules.leak(), known, lines),
+        Ok(modules) => are_resolved_to(alloc, modules.leak(), known, given, lines),
         Err(_) => false,
     }
 }
@@ -154,9 +200,10 @@ fn first_other(
     alloc: Global,
     rows: &'static [Row],
     known: &'static [KnownType<'static>],
+    given: Given,
 ) -> Option<&'static [u8]> {
     for (source, lines) in rows {
-        if !is_resolved_to(alloc, source, known, lines) {
+        if !is_resolved_to(alloc, source, known, given, lines) {
             return Some(source);
         }
     }
@@ -165,21 +212,22 @@ fn first_other(
 
 #[test]
 fn tags_are_resolved(rt: HostRuntime) {
-    assert!(rt; first_other(rt.alloc(), &TAGS, &[]).is_none());
-    assert!(rt; first_other(rt.alloc(), &AUTOMATIC_TAGS, &[]).is_none());
+    assert!(rt; first_other(rt.alloc(), &TAGS, &[], Given::All).is_none());
+    assert!(rt; first_other(rt.alloc(), &AUTOMATIC_TAGS, &[], Given::All).is_none());
 }
 
 #[test]
 fn values_and_constraints_are_resolved(rt: HostRuntime) {
-    assert!(rt; first_other(rt.alloc(), &VALUES, &[]).is_none());
-    assert!(rt; first_other(rt.alloc(), &CONSTRAINTS, &[]).is_none());
+    assert!(rt; first_other(rt.alloc(), &VALUES, &[], Given::All).is_none());
+    assert!(rt; first_other(rt.alloc(), &CONSTRAINTS, &[], Given::All).is_none());
 }
 
 #[test]
 fn names_are_resolved(rt: HostRuntime) {
-    assert!(rt; first_other(rt.alloc(), &NAMES, &[]).is_none());
-    assert!(rt; first_other(rt.alloc(), &OPEN, &[]).is_none());
-    assert!(rt; first_other(rt.alloc(), &REJECTED, &[]).is_none());
+    assert!(rt; first_other(rt.alloc(), &NAMES, &[], Given::All).is_none());
+    assert!(rt; first_other(rt.alloc(), &OPEN, &[], Given::All).is_none());
+    assert!(rt; first_other(rt.alloc(), &REJECTED, &[], Given::All).is_none());
+    assert!(rt; first_other(rt.alloc(), &INCOMPLETE, &[], Given::Part).is_none());
 }
 
 static KNOWN: [KnownType<'static>; 1] = [KnownType {
@@ -216,5 +264,5 @@ static IMPORTED: [Row; 3] = [
 
 #[test]
 fn known_types_are_imported(rt: HostRuntime) {
-    assert!(rt; first_other(rt.alloc(), &IMPORTED, &KNOWN).is_none());
+    assert!(rt; first_other(rt.alloc(), &IMPORTED, &KNOWN, Given::All).is_none());
 }
