@@ -117,15 +117,16 @@ ALONE = "Alone: exact, canonical\n"
 REPORT = "Report: exact, canonical\n"
 BOX = "Box: exact, canonical\n"
 KNOWN = "Known: exact, canonical\n"
-CODE = "Code: accepts more, canonical\n"
-BADGE = "Badge: accepts more: the components of a SET with `...` aren't read\n"
+CODE = "Code: accepts more, canonical\n    `octets`: the contents of a string aren't read\n"
+BADGE = "Badge: accepts more\n    the components of a SET with `...` aren't read\n"
 CLOSED = "Shape: rejects additions, canonical\nBox: exact, canonical\n"
 HEAD = "Head: rejects additions, canonical\n"
 LABEL = "Label: exact, canonical\n"
-OPEN = "Open: accepts more\n"
+OPEN = "Open: accepts more\n    `text`: a part with a default may be encoded though it is the default\n"
 SETS_LISTED = """Name: exact, canonical
 ChildInformation: exact, canonical
 PersonnelRecord: accepts more, canonical
+    `children`: a part with a default may be encoded though it is the default
 Pick: exact, canonical
 Kind: exact, canonical
 Mixed: exact, canonical
@@ -133,10 +134,15 @@ Extra: exact, canonical
 Inside.place: exact, canonical
 Inside: exact, canonical
 Around.outer: exact, canonical
-Around: accepts more: the components of a SET with a CHOICE whose tags are around that of another part aren't read
-Element: accepts more: the components of a SET with a part that may be any element aren't read
+Around: accepts more
+    the components of a SET with a CHOICE whose tags are around that of another part aren't read
+Element: accepts more
+    the components of a SET with a part that may be any element aren't read
 """
-INCOMPLETE_LISTED = "Code: accepts more\n"
+INCOMPLETE_LISTED = """Code: accepts more
+    `first`: a type that no module gives is any element
+    `second`: a type that no module gives is any element
+"""
 REPORT_LISTED = "Report.choice: exact, canonical\nReport: exact, canonical\n"
 # The notations of the parts of a SET.
 MIXED = """type Parts = (Default<Implicit<Universal<1>, bool>, Unset>, (Implicit<Universal<4>, Vec<u8>>, (Default<Implicit<Universal<10>, Named<Kind>>, \
@@ -208,8 +214,8 @@ incomplete.asn1:3:56: a type that no module gives is any element
 """
 ANY_HEAD = """//! It accepts more than the module says:
 //!
-//! - a type that no module gives is any element.
-//! - a type that no module gives is any element.
+//! - `first`: a type that no module gives is any element.
+//! - `second`: a type that no module gives is any element.
 """
 IS_NO_LIST = "crates/some/exports: it isn't a list of types\n"
 EXPORTS = """Second Alone alone Alone U16 canonical

@@ -4,7 +4,7 @@ use crate::canonical::is_body_canonical;
 use crate::constants::add_constants;
 use crate::differences::{Difference, differences_of, rejects_additions};
 use crate::exports::exports_of;
-use crate::head::put_path;
+use crate::head::{put_differences, put_path};
 use crate::imports::Words;
 use crate::naming::UsedNames;
 use crate::open_choices::open_choices;
@@ -295,8 +295,9 @@ pub fn sources_of(
     Ok(files)
 }
 
-// Appends what the list says of a type, after its path.
+// Appends what the list says of a type, after its path: a judgement, and each reason why it accepts more.
 fn put_judgement(
+    alloc: Global,
     definition: &Definition<'_>,
     differences: &[Difference],
     name: &TypeName,
@@ -310,19 +311,16 @@ fn put_judgement(
         (false, false) => ": accepts more",
         (false, true) => ": accepts more, rejects additions",
     });
-    if let Some(reason) = name.unread {
-        out.say(": ");
-        out.say(reason);
-    }
     out.say(if name.is_canonical {
         ", canonical\n"
     } else {
         "\n"
     });
+    put_differences(alloc, body, differences, "    ", "\n", out);
 }
 
 /// A line for each type: its name, whether it accepts exactly what the module says, more, or not what a later version adds, and whether what BER
-/// reads is written in DER.
+/// reads is written in DER. Below it is a line for each reason why it accepts more.
 pub fn list_of(alloc: Global, source: &CrateSource<'_, '_>) -> Text {
     let mut out = Text::new(alloc);
     for (place, name) in source.names.defined.iter().enumerate() {
@@ -334,7 +332,7 @@ pub fn list_of(alloc: Global, source: &CrateSource<'_, '_>) -> Text {
         }
         put_path(definition.path.as_slice(), &mut out);
         match differences_of(alloc, definition, name) {
-            Ok(all) => put_judgement(definition, all.as_slice(), name, &mut out),
+            Ok(all) => put_judgement(alloc, definition, all.as_slice(), name, &mut out),
             Err(_) => out.cut(),
         }
     }

@@ -5,8 +5,8 @@ use crate::terms::TypeName;
 use crate::text::Text;
 use asn1_syntax::tree::{Assignment, Module};
 use asn1_syntax::{Token, lex};
-use asn1_types::model::{Body, Components, Definition, Presence};
-use std::alloc::Global;
+use asn1_types::model::{Body, Components, Definition, Place, Presence};
+use std::alloc::{AllocError, Global};
 
 /// A module: its source, and its tree.
 #[derive(Clone, Copy)]
@@ -78,17 +78,93 @@ fn put_lines(text: &[u8], out: &mut Text) {
     out.say("\n");
 }
 
+/// A part of a SEQUENCE or a SET, or an alternative of a CHOICE.
+#[derive(Clone, Copy)]
+struct NamedPart<'a> {
+    /// Where its name is.
+    place: Place,
+    /// Its name.
+    name: &'a [u8],
+}
+
+// The parts or the alternatives of a type.
+fn named_parts<'a>(alloc: Global, body: &Body<'a>) -> Result<Vec<NamedPart<'a>>, AllocError> {
+    let mut found = Vec::new(alloc);
+    match body {
+        Body::Sequence(components) | Body::Set(components) => {
+            for part in components.parts.iter() {
+                found.push(NamedPart {
+                    place: part.place,
+                    name: part.name,
+                })?;
+            }
+        }
+        Body::Choice(choice) => {
+            for alternative in choice.alternatives.iter() {
+                found.push(NamedPart {
+                    place: alternative.place,
+                    name: alternative.name,
+                })?;
+            }
+        }
+        Body::Enumerated(_) | Body::Value(_) | Body::Alias(_) => {}
+    }
+    Ok(found)
+}
+
+// The part that a place is in: of those whose names are before it, the last one.
+fn part_at<'a>(parts: &[NamedPart<'a>], place: Place) -> Option<NamedPart<'a>> {
+    let mut found: Option<NamedPart<'a>> = None;
+    for part in parts {
+        let is_before = part.place.module == place.module && part.place.offset <= place.offset;
+        let is_later = match found {
+            Some(other) => other.place.offset < part.place.offset,
+            None => true,
+        };
+        if is_before && is_later {
+            found = Some(*part);
+        }
+    }
+    found
+}
+
+// Appends why a type accepts more, and the name of the part where it does.
+fn put_difference(parts: &[NamedPart<'_>], difference: Difference, out: &mut Text) {
+    if let Some(part) = part_at(parts, difference.place) {
+        out.say("`");
+        out.put(part.name);
+        out.say("`: ");
+    }
+    out.say(difference.text);
+}
+
+/// Appends why a type accepts more than its module says: each reason between the first text and the last one.
+pub fn put_differences(
+    alloc: Global,
+    body: &Body<'_>,
+    differences: &[Difference],
+    first: &str,
+    last: &str,
+    out: &mut Text,
+) {
+    let Ok(parts) = named_parts(alloc, body) else {
+        out.cut();
+        return;
+    };
+    for one in differences {
+        out.say(first);
+        put_difference(parts.as_slice(), *one, out);
+        out.say(last);
+    }
+}
+
 // Appends what a type leaves out of its module.
-fn put_differences(differences: &[Difference], out: &mut Text) {
+fn put_looser(alloc: Global, body: &Body<'_>, differences: &[Difference], out: &mut Text) {
     if differences.is_empty() {
         return;
     }
     out.say("//!\n//! It accepts more than the module says:\n//!\n");
-    for one in differences {
-        out.say("//! - ");
-        out.say(one.text);
-        out.say(".\n");
-    }
+    put_differences(alloc, body, differences, "//! - ", ".\n", out);
 }
 
 // Whether earlier versions leave out parts that are mandatory in this one.
@@ -168,7 +244,7 @@ pub fn put_head(
     put_unread(name, out);
     out.say(missing_text(&definition.body, name.is_open));
     match inner_differences(alloc, definition) {
-        Ok(differences) => put_differences(differences.as_slice(), out),
+        Ok(differences) => put_looser(alloc, &definition.body, differences.as_slice(), out),
         Err(_) => out.cut(),
     }
 }

@@ -11,11 +11,11 @@
 //!
 //! It accepts more than the module says:
 //!
-//! - the characters of a string aren't read.
-//! - a constraint isn't tested.
-//! - the characters of a string aren't read.
-//! - a constraint isn't tested.
-//! - a constraint isn't tested.
+//! - `teletexString`: the characters of a string aren't read.
+//! - `teletexString`: a constraint isn't tested.
+//! - `universalString`: the characters of a string aren't read.
+//! - `universalString`: a constraint isn't tested.
+//! - `bmpString`: a constraint isn't tested.
 ghost use Rattle.std.specs.Prelude.{◌≡◌, ◌↔◌, IsTrue, Some, length, refl};
 ghost use Rattle.std.proofs.Common.{ap, arith};
 ghost use Rattle.yasna_base.specs.Text.{characters};

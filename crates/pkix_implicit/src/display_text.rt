@@ -10,7 +10,7 @@
 //!
 //! It accepts more than the module says:
 //!
-//! - a constraint isn't tested.
+//! - `bmpString`: a constraint isn't tested.
 ghost use Rattle.std.specs.Prelude.{◌≡◌, ◌↔◌, IsTrue, length, refl};
 ghost use Rattle.std.proofs.Common.{ap};
 ghost use Rattle.yasna_base.specs.Text.{characters};

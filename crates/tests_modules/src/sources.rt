@@ -245,7 +245,7 @@ static SETS: [Row; 9] = [
     (
         b"M DEFINITIONS ::= BEGIN Badge ::= SET { any ANY } END",
         "list",
-        "Badge: accepts more: the components of a SET with a part that may be any element aren't read\n",
+        "Badge: accepts more\n    the components of a SET with a part that may be any element aren't read\n",
     ),
 ];
 
@@ -274,7 +274,7 @@ static VALUES: [Row; 5] = [
     (
         b"M DEFINITIONS ::= BEGIN Name ::= SEQUENCE { text BMPString (SIZE (1..8)) } END",
         "list",
-        "Name: accepts more, canonical\n",
+        "Name: accepts more, canonical\n    `text`: a constraint isn't tested\n",
     ),
 ];
 
@@ -307,7 +307,7 @@ static TESTED: [Row; 6] = [
     (
         b"M DEFINITIONS ::= BEGIN Label ::= SEQUENCE { id NULL, text UTF8String DEFAULT \"a\", ... } Badge ::= SET { text UTF8String DEFAULT \"a\" } END",
         "list",
-        "Label: accepts more\nBadge: accepts more, canonical\n",
+        "Label: accepts more\n    `text`: a part with a default may be encoded though it is the default\nBadge: accepts more, canonical\n    `text`: a part with a default may be encoded though it is the default\n",
     ),
 ];
 
@@ -315,11 +315,21 @@ const HEADS: &[u8] =
     b"M DEFINITIONS ::= BEGIN Head ::= SEQUENCE { id NULL, ..., ..., name UTF8String } Tail ::= SEQUENCE { id NULL, ... } END";
 
 // The lines of types that accept more than the module says, and of those that reject what a later version adds.
-static LISTED: [Row; 5] = [
+static LISTED: [Row; 7] = [
+    (
+        b"M DEFINITIONS ::= BEGIN Name ::= CHOICE { text BMPString (SIZE (1..8)), id NULL, other [0] BMPString (SIZE (9)) } END",
+        "list",
+        "Name: accepts more, canonical\n    `text`: a constraint isn't tested\n    `other`: a constraint isn't tested\n",
+    ),
+    (
+        b"M DEFINITIONS ::= BEGIN Name ::= CHOICE { text BMPString (SIZE (1..8)), id NULL } END",
+        "src/name.rt",
+        "//! It accepts more than the module says:\n//!\n//! - `text`: a constraint isn't tested.\n",
+    ),
     (
         b"M DEFINITIONS ::= BEGIN Badge ::= [1] SET { number INTEGER, ... } END",
         "list",
-        "Badge: accepts more: the components of a SET with `...` aren't read\n",
+        "Badge: accepts more\n    the components of a SET with `...` aren't read\n",
     ),
     (
         b"M DEFINITIONS ::= BEGIN Shape ::= CHOICE { number INTEGER, ... } Box ::= SEQUENCE { shape Shape OPTIONAL, label UTF8String } END",
@@ -339,7 +349,7 @@ static LISTED: [Row; 5] = [
     (
         b"M DEFINITIONS ::= BEGIN Name ::= SEQUENCE { text BMPString (SIZE (1..8)), ..., ..., id NULL } END",
         "list",
-        "Name: accepts more, rejects additions, canonical\n",
+        "Name: accepts more, rejects additions, canonical\n    `text`: a constraint isn't tested\n",
     ),
 ];
 
