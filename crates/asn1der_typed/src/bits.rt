@@ -1,7 +1,17 @@
 //! Values of BIT STRING. The zeros at the end of named bits mean nothing, so DER has none (X.690, 11.2.2).
-ghost use Rattle.std.specs.Prelude.{OnOk};
-ghost use Rattle.yasna_base.specs.Bits.{bits_tag};
-ghost use Rattle.asn1der_typed.specs.Appending.{AppendsUnder};
+ghost use Rattle.std.specs.Prelude.{◌≡◌, ◌↔◌, ◌+◌, ◌*◌, ◌/◌, ◌≤◌, IsTrue, OnOk, length};
+ghost use Rattle.yasna_base.specs.Bits.{AreTheBits, IsBits, bits_contents};
+ghost use Rattle.yasna_base.specs.Grammar.{max_depth};
+ghost use Rattle.yasna_base.specs.declared.mode.BERMode.TheVariants.{Ber};
+ghost use Rattle.asn1der_typed.specs.Appending.{
+  AppendsUnder,
+  AreBitsOf,
+  AreUpToLastOne,
+  HasDerCount,
+  StartsWith,
+  bit_at,
+  first_bits,
+};
 
 use asn1der_convert::error::ConvertError;
 use asn1der_convert::primitives::{append_bit_string, append_bits, unused_and_bytes, unused_bits};
@@ -14,40 +24,40 @@ use yasna_bytes::bytes::cursor::Cursor;
 use yasna_bytes::bytes::segments::bit_string;
 
 // How many octets this many bits take.
-fn octets_of(count: usize) -> usize {
+fn octets_of(count: usize) -> usize
+    ensures { result ≡ (count + 7) / 8 }
+{
     count.div_ceil(8)
 }
 
-// How many bits there are up to the last one of octets.
-fn ones_of(octets: &[u8]) -> usize {
-    match octets.iter().rposition(|octet| *octet != 0) {
-        Some(index) => {
-            let zeros = octets[index].trailing_zeros() as usize;
-            index
-                .saturating_add(1)
-                .saturating_mul(8)
-                .saturating_sub(zeros)
-        }
-        None => 0,
+// Whether the bit at a place is one.
+fn is_one(octets: &[u8], at: usize) -> bool
+    ensures { IsTrue result ↔ (bit_at octets.now at ≡ 1) }
+{
+    match octets.get(at / 8) {
+        Some(octet) => (*octet >> (7 - at % 8)) % 2 == 1,
+        None => false,
     }
 }
 
 // How many of the first bits of octets there are without the zeros at their end.
-fn named_count(octets: &[u8], count: usize) -> usize {
-    let used = octets.get(..octets_of(count)).unwrap_or(octets);
-    let Some((last, before)) = used.split_last() else {
-        return 0;
-    };
-    let unused = used.len().saturating_mul(8).saturating_sub(count) % 8;
-    let bits = last >> unused;
-    if bits == 0 {
-        return ones_of(before);
+fn named_count(octets: &[u8], count: usize) -> usize
+    ensures { AreUpToLastOne octets.now count result }
+{
+    let mut left = count;
+    while left > 0 {
+        if is_one(octets, left - 1) {
+            return left;
+        }
+        left -= 1;
     }
-    count.saturating_sub(bits.trailing_zeros() as usize)
+    0
 }
 
 // How many of the first bits of octets DER has of a value of this type.
-fn der_count(value: ValueType, octets: &[u8], count: usize) -> usize {
+fn der_count(value: ValueType, octets: &[u8], count: usize) -> usize
+    ensures { HasDerCount value octets.now count result }
+{
     match value {
         ValueType::NamedBits(_) => named_count(octets, count),
         _ => count,
@@ -61,9 +71,10 @@ fn append_first_bits(
     count: usize,
     out: &mut Vec<u8>,
 ) -> Result<(), AllocError>
-    ensures { OnOk result (AppendsUnder bits_tag identifier_bytes.now out.old.items out.new.items) }
+    requires { count ≤ 8 * length octets.now }
+    ensures { OnOk result (AppendsUnder (λ c. c ≡ bits_contents (first_bits octets.now count)) identifier_bytes.now out.old.items out.new.items) }
 {
-    let first = octets.get(..octets_of(count)).unwrap_or(octets);
+    let first = &octets[..octets_of(count)];
     if first.is_empty() {
         return append_bits(out, identifier_bytes, 0, first);
     }
@@ -78,7 +89,7 @@ pub fn append_whole_bits(
     contents: &[u8],
     out: &mut Vec<u8>,
 ) -> Result<(), ConvertError>
-    ensures { OnOk result (AppendsUnder bits_tag identifier_bytes.now out.old.items out.new.items) }
+    ensures { OnOk result (AppendsUnder (λ c. AreBitsOf value (AreTheBits Ber) c contents.now) identifier_bytes.now out.old.items out.new.items) }
 {
     let Some((unused, octets)) = unused_and_bytes(contents) else {
         return Err(ConvertError::at(cursor, ASN1ErrorKind::Invalid));
@@ -105,7 +116,9 @@ pub fn append_bit_segments(
     identifier_bytes: &[u8],
     out: &mut Vec<u8>,
 ) -> Result<(), ConvertError>
-    ensures { OnOk result (AppendsUnder bits_tag identifier_bytes.now out.old.items out.new.items) }
+    requires mode { cursor.mode ≡ Ber }
+    requires levels { cursor.levels ≡ max_depth }
+    ensures { OnOk result (AppendsUnder (StartsWith (AreBitsOf value (IsBits tag Ber max_depth)) cursor.entry.left.now) identifier_bytes.now out.old.items out.new.items) }
 {
     let ((octets, all), _rest) = match bit_string(alloc, cursor, tag) {
         Ok(taken) => taken,

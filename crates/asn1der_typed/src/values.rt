@@ -1,20 +1,24 @@
 //! Elements in which no others are, or others of which the module says nothing. Each is appended to the output.
 ghost use Rattle.std.specs.Prelude.{◌≡◌, [], IfOk, OnOk};
-ghost use Rattle.yasna_base.specs.Boolean.{boolean_tag};
 ghost use Rattle.yasna_base.specs.Grammar.{max_depth};
 ghost use Rattle.yasna_base.specs.Header.{definite_end};
 ghost use Rattle.yasna_base.specs.Identifier.{identifier};
+ghost use Rattle.yasna_base.specs.Text.{IsStringOf};
 ghost use Rattle.yasna_base.specs.declared.tag.Tag.{Tag};
 ghost use Rattle.yasna_base.specs.declared.mode.BERMode.TheVariants.{Ber};
 ghost use Rattle.yasna_base.specs.declared.tag.PCBit.TheVariants.{Primitive, Constructed};
 ghost use Rattle.asn1der_convert.specs.Parts.{AppendsParts};
-ghost use Rattle.asn1der_convert.specs.Tags.{IsStringTag};
+ghost use Rattle.asn1_contents.specs.Contents.{HasContents};
+ghost use Rattle.asn1_contents.specs.ContentsType.{type_with};
 ghost use Rattle.asn1der_typed.specs.Appending.{
   AppendsUnder,
-  AppendsAround,
   AppendsElement,
   AppendsSameTag,
   AppendsValue,
+  HasDerContents,
+  HasDerElements,
+  IsBooleanOf,
+  StartsWith,
   universal_tag,
 };
 
@@ -36,7 +40,7 @@ use yasna_base::error::ASN1ErrorKind;
 use yasna_base::mode::BERMode;
 use yasna_base::tag::{PCBit, Tag, TagClass};
 use yasna_bytes::bytes::cursor::Cursor;
-use yasna_bytes::bytes::header::{ContentsEnd, open, read_primitive_contents};
+use yasna_bytes::bytes::header::{ContentsEnd, open_constructed, read_primitive_contents};
 use yasna_bytes::bytes::segments::octet_string;
 use yasna_bytes::bytes::walk::{RawElement, prefix_before, raw_element};
 
@@ -101,7 +105,7 @@ fn append_boolean(
     contents: &[u8],
     out: &mut Vec<u8>,
 ) -> Result<(), ConvertError>
-    ensures { OnOk result (AppendsUnder boolean_tag identifier_bytes.now out.old.items out.new.items) }
+    ensures { OnOk result (AppendsUnder (λ c. IsBooleanOf c contents.now) identifier_bytes.now out.old.items out.new.items) }
 {
     let [octet] = contents else {
         return Err(ConvertError::at(cursor, ASN1ErrorKind::Invalid));
@@ -119,7 +123,9 @@ fn append_whole(
     identifier_bytes: &[u8],
     out: &mut Vec<u8>,
 ) -> Result<(), ConvertError>
-    ensures { OnOk result (AppendsUnder (universal_tag value) identifier_bytes.now out.old.items out.new.items) }
+    requires mode { cursor.mode ≡ Ber }
+    requires levels { cursor.levels ≡ max_depth }
+    ensures { OnOk result (AppendsUnder (StartsWith (HasDerContents value tag) cursor.entry.left.now) identifier_bytes.now out.old.items out.new.items) }
 {
     let contents = match read_primitive_contents(cursor, tag) {
         Ok((contents, _rest)) => contents,
@@ -152,8 +158,9 @@ fn append_octet_segments(
     identifier_bytes: &[u8],
     out: &mut Vec<u8>,
 ) -> Result<(), ConvertError>
-    requires { IsStringTag (universal_tag value) }
-    ensures { OnOk result (AppendsUnder (universal_tag value) identifier_bytes.now out.old.items out.new.items) }
+    requires mode { cursor.mode ≡ Ber }
+    requires levels { cursor.levels ≡ max_depth }
+    ensures { OnOk result (AppendsUnder (StartsWith (IsStringOf (HasContents (type_with (universal_tag value))) tag Ber max_depth) cursor.entry.left.now) identifier_bytes.now out.old.items out.new.items) }
 {
     match octet_string(alloc, cursor, tag) {
         Ok((octets, _rest)) => {
@@ -176,9 +183,9 @@ fn append_parts(
 ) -> Result<(), ConvertError>
     requires mode { cursor.mode ≡ Ber }
     requires levels { cursor.levels ≡ max_depth }
-    ensures { OnOk result (AppendsAround identifier_bytes.now out.old.items out.new.items) }
+    ensures { OnOk result (AppendsUnder (StartsWith (HasDerElements tag) cursor.entry.left.now) identifier_bytes.now out.old.items out.new.items) }
 {
-    let opened = match open(cursor, tag) {
+    let opened = match open_constructed(cursor, tag) {
         Ok(opened) => opened,
         Err(rejection) => return Err(ConvertError::at(cursor, rejection.kind)),
     };
@@ -200,7 +207,7 @@ fn append_constructed(
     requires mode { cursor.mode ≡ Ber }
     requires levels { cursor.levels ≡ max_depth }
     requires bytes { identifier_bytes.now ≡ identifier tag Constructed }
-    ensures { OnOk result (AppendsElement (universal_tag value) tag out.old.items out.new.items) }
+    ensures { OnOk result (AppendsElement value tag cursor.entry.left.now out.old.items out.new.items) }
 {
     let own = tag_of(value);
     if is_primitive_type(own) {
@@ -227,7 +234,7 @@ fn append_typed(
 ) -> Result<(), ConvertError>
     requires mode { cursor.mode ≡ Ber }
     requires levels { cursor.levels ≡ max_depth }
-    ensures { OnOk result (AppendsSameTag (universal_tag value) cursor.entry.left.now out.old.items out.new.items) }
+    ensures { OnOk result (AppendsSameTag value cursor.entry.left.now out.old.items out.new.items) }
 {
     let (tag, bit, trailing) = match read_identifier(cursor.left) {
         Ok(found) => found,
@@ -269,7 +276,7 @@ pub fn append_value(
     default: Option<Number>,
     out: &mut Vec<u8>,
 ) -> Result<(), ConvertError>
-    ensures { OnOk result (AppendsValue default (universal_tag value) place.entry.element.bytes.now out.old.items out.new.items) }
+    ensures { OnOk result (AppendsValue default value place.entry.element.bytes.now out.old.items out.new.items) }
 {
     let start = out.len();
     append_typed(alloc, cursor_of(place), value, out)?;
