@@ -1,6 +1,14 @@
 //! Whether values are as their types say: bounds, sizes and items.
-ghost use Rattle.std.specs.Prelude.{◌≡◌, ◌↔◌, ⊤, IsTrue, MatchOption};
-ghost use Rattle.asn1show_schema.specs.Values.{HasSize};
+ghost use Rattle.std.specs.Prelude.{◌≡◌, ◌↔◌, ◌≤◌, ◌^◌, ⊤, IsTrue, MatchOption};
+ghost use Rattle.asn1show_schema.specs.Values.{
+  HasNumber,
+  HasSignBit,
+  HasSize,
+  IsNumberOf,
+  NumberAt,
+  digit_of,
+  spelled_number,
+};
 
 use crate::schema::{Bounds, NamedNumber, Number, Rows, Schema, Size, ValueType};
 
@@ -17,33 +25,46 @@ pub enum ValueError {
     LastZeros,
 }
 
-// The number that octets spell in base 256, each with these bits turned, if 64 bits hold it.
-fn spelled(octets: &[u8], turned: u8) -> Option<u64> {
+// An octet as a digit in base 256, with all its bits turned for a number below zero.
+fn digit_of(octet: u8, is_negative: bool) -> u8
+    ensures { result ≡ digit_of is_negative octet }
+{
+    if is_negative { 255 - octet } else { octet }
+}
+
+// The number that octets spell in base 256, as such digits, if 64 bits hold it.
+fn spelled(octets: &[u8], is_negative: bool) -> Option<u64>
+    ensures { MatchOption result (2 ^ 64 ≤ spelled_number is_negative octets.now) (λ number. number ≡ spelled_number is_negative octets.now) }
+{
     let mut sum: u64 = 0;
     for octet in octets {
         sum = sum
             .checked_mul(256)?
-            .checked_add(u64::from(*octet ^ turned))?;
+            .checked_add(u64::from(digit_of(*octet, is_negative)))?;
     }
     Some(sum)
 }
 
 /// The number with these contents (X.690, 8.3), if 64 bits and a sign hold it.
-pub fn number_of(contents: &[u8]) -> Option<Number> {
-    if is_negative(contents) {
+pub fn number_of(contents: &[u8]) -> Option<Number>
+    ensures { NumberAt contents.now result }
+{
+    if has_sign_bit(contents) {
         return Some(Number {
             is_negative: true,
-            magnitude: spelled(contents, 255)?.checked_add(1)?,
+            magnitude: spelled(contents, true)?.checked_add(1)?,
         });
     }
     Some(Number {
         is_negative: false,
-        magnitude: spelled(contents, 0)?,
+        magnitude: spelled(contents, false)?,
     })
 }
 
 // Whether contents are those of a number below zero.
-fn is_negative(contents: &[u8]) -> bool {
+fn has_sign_bit(contents: &[u8]) -> bool
+    ensures { IsTrue result ↔ HasSignBit contents.now }
+{
     match contents {
         [first, ..] => *first >= 128,
         [] => false,
@@ -63,7 +84,7 @@ fn is_less(a: Number, b: Number) -> bool {
 // Whether the number with these contents is within bounds.
 fn is_within(bounds: Bounds, contents: &[u8]) -> bool {
     let Some(number) = number_of(contents) else {
-        return if is_negative(contents) {
+        return if has_sign_bit(contents) {
             bounds.low.is_none()
         } else {
             bounds.high.is_none()
@@ -178,10 +199,26 @@ pub fn error_of(schema: &Schema, value: ValueType, contents: &[u8]) -> Option<Va
     }
 }
 
+// Whether the octet of a BOOLEAN has a number, which is 0 of FALSE and another one of TRUE.
+fn has_truth(octet: u8, number: Number) -> bool
+    ensures { IsTrue result ↔ ((octet ≡ 0) ↔ (number.magnitude ≡ 0)) }
+{
+    (octet != 0) == (number.magnitude != 0)
+}
+
+// Whether contents are those of a number.
+fn is_number(contents: &[u8], number: Number) -> bool
+    ensures { IsTrue result ↔ IsNumberOf contents.now number }
+{
+    number_of(contents) == Some(number)
+}
+
 /// Whether primitive contents of a value have a number, which is 0 of FALSE and 1 of TRUE.
-pub fn has_number(value: ValueType, contents: &[u8], number: Number) -> bool {
-    match (value, contents) {
-        (ValueType::Other(1), [octet]) => (*octet != 0) == (number.magnitude != 0),
-        _ => number_of(contents) == Some(number),
+pub fn has_number(value: ValueType, contents: &[u8], number: Number) -> bool
+    ensures { IsTrue result ↔ HasNumber value contents.now number }
+{
+    match contents {
+        [octet] if value.universal_number() == 1 => has_truth(*octet, number),
+        _ => is_number(contents, number),
     }
 }
