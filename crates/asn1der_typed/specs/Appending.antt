@@ -1,5 +1,5 @@
 -- What is appended to an output for an element of the input.
-use Rattle.std.specs.Prelude.{◌≡◌, ◌⊎◌, ◌≤◌, ◌<◌, ◌+◌, ◌-◌, ◌/◌, ◌%◌, ◌^◌, Bool, List, [], ◌∷◌, ℕ, ◌++◌, length, take, drop, get_or, Option, Some, None}
+use Rattle.std.specs.Prelude.{◌≡◌, ◌≤◌, ◌<◌, ◌+◌, ◌-◌, ◌/◌, ◌%◌, ◌^◌, Bool, List, [], ◌∷◌, ℕ, ◌++◌, length, take, drop, get_or, Option, Some, None}
 use Rattle.std.specs.List.{concat}
 use Rattle.asn1_contents.specs.Contents.{HasContents}
 use Rattle.asn1_contents.specs.ContentsType.{type_with}
@@ -10,7 +10,7 @@ use Rattle.asn1der_convert.specs.Tags.{IsStringTag, IsConstructedTag, IsOtherCon
 use Rattle.asn1der_convert.specs.Tree.{IsAround}
 use Rattle.asn1der_convert.specs.declared.sorting.SortKey.{SortKey}
 use Rattle.asn1der_convert.specs.declared.sorting.SortKey.TheVariants.{ByTags, ByOctets}
-use Rattle.asn1show_schema.specs.Values.{universal_number}
+use Rattle.asn1show_schema.specs.Values.{universal_number, HasNumber}
 use Rattle.asn1show_schema.specs.declared.schema.Contents.{Contents}
 use Rattle.asn1show_schema.specs.declared.schema.Contents.TheVariants.{Any, One, InOrder, InAnyOrder, SequenceOf, SetOf, Value, Selected}
 use Rattle.asn1show_schema.specs.declared.schema.Number.{Number}
@@ -127,10 +127,20 @@ pub record AppendsSameTag (value : ValueType) (b s s' : List ℕ) : Type 0 where
   pub begins : BeginsWithTag tag b
   pub element : AppendsElement value tag b s s'
 
--- as `AppendsSameTag`, or nothing was appended, since the part may be absent and has its default number
+-- an element in DER with this bit and these contents has the number: only a primitive one has one
+abbrev pub HasDefault : ValueType → Number → PCBit → List ℕ → Type 0
+HasDefault value n bit contents = (bit ≡ Primitive) × HasNumber value contents n
+
+-- as `AppendsSameTag`, but nothing was appended if the element has the number that its part has if it is absent (X.690, 11.5)
+pub data AppendsUnlessDefault (n : Number) (value : ValueType) (b s s' : List ℕ) : Type 0 where
+  omitted : (full : List ℕ) (x : AppendsSameTag value b s full) → HasDefault value n x.element.bit x.element.contents → s' ≡ s →
+      AppendsUnlessDefault n value b s s'
+  written : (x : AppendsSameTag value b s s') → (HasDefault value n x.element.bit x.element.contents → ⊥) → AppendsUnlessDefault n value b s s'
+
+-- as `AppendsSameTag`, or as `AppendsUnlessDefault`, if the part has a number if it is absent
 abbrev pub AppendsValue : Option Number → ValueType → List ℕ → List ℕ → List ℕ → Type 0
 AppendsValue None value b s s' = AppendsSameTag value b s s'
-AppendsValue (Some n) value b s s' = AppendsSameTag value b s s' ⊎ (s' ≡ s)
+AppendsValue (Some n) value b s s' = AppendsUnlessDefault n value b s s'
 
 -- the elements ps that s is from the place k on are sorted by the key in s'
 abbrev pub SortsFrom : SortKey → ℕ → List ℕ → List ℕ → Type 0

@@ -1,11 +1,13 @@
 //! Elements in which no others are, or others of which the module says nothing. Each is appended to the output.
-ghost use Rattle.std.specs.Prelude.{◌≡◌, [], IfOk, OnOk};
+ghost use Rattle.std.specs.Prelude.{◌≡◌, ◌↔◌, ◌<◌, ◌^◌, ℕ, List, [], IsTrue, IfOk, OnOk};
+ghost use Rattle.yasna_base.specs.Canonical.{canonical_element};
 ghost use Rattle.yasna_base.specs.Grammar.{max_depth};
 ghost use Rattle.yasna_base.specs.Header.{definite_end};
 ghost use Rattle.yasna_base.specs.Identifier.{identifier};
 ghost use Rattle.yasna_base.specs.Text.{IsStringOf};
 ghost use Rattle.yasna_base.specs.declared.tag.Tag.{Tag};
-ghost use Rattle.yasna_base.specs.declared.mode.BERMode.TheVariants.{Ber};
+ghost use Rattle.yasna_base.specs.declared.mode.BERMode.TheVariants.{Ber, Der};
+ghost use Rattle.yasna_base.specs.declared.tag.PCBit.{PCBit};
 ghost use Rattle.yasna_base.specs.declared.tag.PCBit.TheVariants.{Primitive, Constructed};
 ghost use Rattle.asn1der_convert.specs.Parts.{AppendsParts};
 ghost use Rattle.asn1_contents.specs.Contents.{HasContents};
@@ -15,6 +17,7 @@ ghost use Rattle.asn1der_typed.specs.Appending.{
   AppendsElement,
   AppendsSameTag,
   AppendsValue,
+  HasDefault,
   HasDerContents,
   HasDerElements,
   IsBooleanOf,
@@ -42,7 +45,7 @@ use yasna_base::tag::{PCBit, Tag, TagClass};
 use yasna_bytes::bytes::cursor::Cursor;
 use yasna_bytes::bytes::header::{ContentsEnd, open_constructed, read_primitive_contents};
 use yasna_bytes::bytes::segments::octet_string;
-use yasna_bytes::bytes::walk::{RawElement, prefix_before, raw_element};
+use yasna_bytes::bytes::walk::{RawElement, prefix_before};
 
 /// An element of the input, and its place in it.
 #[derive(Clone, Copy)]
@@ -247,10 +250,15 @@ fn append_typed(
     }
 }
 
-// Whether an element in DER has the number that its part has if it is absent.
-fn has_default(value: ValueType, default: Number, element: &[u8]) -> bool {
-    match raw_element(Cursor::start(element, BERMode::Der)) {
-        Ok((element, _rest)) => has_number(value, element.payload, default),
+// Whether an element in DER has the number that its part has if it is absent. Only a primitive one has a number.
+fn has_default(value: ValueType, default: Number, element: &[u8]) -> bool
+    ensures { (t : Tag) (bit : PCBit) (c : List ℕ) → t.tag_number < 2 ^ 64 → element.now ≡ canonical_element Der t bit c → IsTrue result ↔ HasDefault value default bit c }
+{
+    let Ok((tag, _bit, _trailing)) = read_identifier(element) else {
+        return false;
+    };
+    match read_primitive_contents(Cursor::start(element, BERMode::Der), tag) {
+        Ok((contents, _rest)) => has_number(value, contents, default),
         Err(_) => false,
     }
 }
