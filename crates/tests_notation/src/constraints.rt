@@ -35,7 +35,7 @@ impl Kind for Example {
     }
 }
 
-static ROWS: [Row<Example>; 37] = [
+static ROWS: [Row<Example>; 41] = [
     (
         Example::Station,
         Claim::IsEncoding,
@@ -209,6 +209,30 @@ static ROWS: [Row<Example>; 37] = [
         Claim::IsRejected,
         "a note of four characters",
         "301b030204f0310a0402010204040102030404030001020c0461626364",
+    ),
+    (
+        Example::Frame,
+        Claim::IsEncoding,
+        "a trailer of octets",
+        "3018030204f0310a040201020404010203040403000102800161",
+    ),
+    (
+        Example::Frame,
+        Claim::IsEncoding,
+        "a trailer of an element",
+        "301a030204f0310a040201020404010203040403000102a003020105",
+    ),
+    (
+        Example::Frame,
+        Claim::IsRejected,
+        "a trailer with another tag",
+        "3018030204f0310a040201020404010203040403000102810161",
+    ),
+    (
+        Example::Frame,
+        Claim::IsRejected,
+        "a trailer, cut off",
+        "3018030204f0310a040201020404010203040403000102800261",
     ),
     (Example::Settings, Claim::IsEncoding, "the defaults", "3000"),
     (

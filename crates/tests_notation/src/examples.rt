@@ -13,7 +13,7 @@
 //! | `badge` | strings that are octets, `Private`, fields under an IMPLICIT tag |
 //! | `ticket` | fields under an EXPLICIT tag |
 //! | `station` | sizes and characters of strings, a range of numbers |
-//! | `frame` | sizes of octets, bits and sets |
+//! | `frame` | sizes of octets, bits and sets; `AnyUnder` |
 //! | `settings` | defaults of numbers |
 //! | `label` | defaults of strings and an object identifier |
 //! | `pss_params` | defaults of structs |

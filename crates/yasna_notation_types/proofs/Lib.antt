@@ -1,5 +1,6 @@
 pub mod Numbering
 pub mod Opening
+pub mod Given
 pub mod Readings
 pub mod BitEnds
 pub mod SetReading

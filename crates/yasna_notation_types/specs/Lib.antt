@@ -1,6 +1,7 @@
 pub mod Named
 pub mod Statuses
 pub mod OpenChoice
+pub mod AnyUnder
 pub mod PlainBits
 pub mod NamedBits
 pub mod LeastBits

@@ -1,6 +1,6 @@
 //! Whether a value of one of these types can be written, as `yasna_notation_constraints` tests it.
 //!
-//! Elements as they came can always be written. A bit string without the zeros at its end can too: bits after its last octet are zeros.
+//! Elements as they came can always be written, under a given tag if it is theirs. A bit string without the zeros at its end can too: bits after its last octet are zeros.
 ghost use Rattle.std.specs.Prelude.{IsTrue, ◌↔◌};
 ghost use Rattle.std.specs.List.{AllByRecursion};
 ghost use Rattle.yasna_base.specs.Canonical.{Always};
@@ -9,6 +9,7 @@ ghost use Rattle.yasna_base.specs.Optional.{option_can};
 ghost use Rattle.yasna_base.specs.Sequence.{part_can};
 ghost use Rattle.yasna_notation_types.specs.LeastBits.{CanLeast};
 
+use crate::any_under::AnyUnder;
 use crate::beginning::Beginning;
 use crate::least_bits::LeastBits;
 use crate::named::{Named, Numbered};
@@ -20,7 +21,7 @@ use crate::possible_default::PossibleDefault;
 use crate::rest::Rest;
 use crate::set_parts::{Set, SetParts};
 use yasna_base::models::TaggedDerValue;
-use yasna_notation::{BitString, DefaultValue, Either, Notation, SequenceOf};
+use yasna_notation::{BitString, DefaultValue, Either, Notation, SequenceOf, TagName};
 use yasna_notation_constraints::{
     Checked, CheckedAlternatives, CheckedBy, CheckedParts, accepts_default, accepts_optional,
 };
@@ -73,6 +74,13 @@ where
             Either::First(known) => A::accepts_either(known),
             Either::Second(_) => true,
         }
+    }
+}
+
+impl<T: TagName> Checked for AnyUnder<T> {
+    #[inline(always)]
+    fn accepts(value: &TaggedDerValue) -> bool {
+        <AnyUnder<T> as Notation>::has_tag(value.tag())
     }
 }
 

@@ -6,6 +6,7 @@
 //! | `plain_bits` | BIT STRING whose unused bits have no meaning |
 //! | `named_bits`, `least_bits` | BIT STRING with named bits, written as it is or without zero bits at its end |
 //! | `open_choice` | an extensible CHOICE |
+//! | `any_under` | an element with a given tag, of a type that isn't known |
 //! | `rest` | the elements at the end of an extensible SEQUENCE, after mandatory parts |
 //! | `others`, `possible_default`, `beginning` | these elements after OPTIONAL and DEFAULT parts, and such parts |
 //! | `set_part`, `set_choices` | types that may be a part of a SET |
@@ -19,6 +20,7 @@
 //! `tests_notation` has a type of a small module as an example of each.
 #![tactic(auto)]
 
+mod any_under;
 mod beginning;
 mod bmp_string;
 mod checked;
@@ -39,6 +41,7 @@ mod statuses;
 mod tag_names;
 mod tagged_fields;
 
+pub use any_under::AnyUnder;
 pub use beginning::Beginning;
 pub use bmp_string::BmpString;
 pub use least_bits::LeastBits;

@@ -3,6 +3,8 @@ ghost use Rattle.std.specs.Prelude.{◌≡◌, ◌∷◌, [], None, true, refl};
 ghost use Rattle.yasna_base.specs.declared.tag.Tag.{Tag};
 ghost use Rattle.yasna_notation_types.specs.SetReading.{ReadsSetPart};
 
+use crate::any_under::AnyUnder;
+use yasna_base::models::TaggedDerValue;
 use yasna_base::tags::{TAG_BOOLEAN, TAG_INTEGER, TAG_OCTETSTRING, TAG_SEQUENCE};
 use yasna_base::{ASN1Result, Tag};
 use yasna_notation::{Explicit, Implicit, Notation, Parts, Sequence, SequenceOf, TagName};
@@ -70,6 +72,15 @@ impl<T: TagName, N: Notation> SetPart for Implicit<T, N> {
     #[inline(always)]
     fn read_chosen(set: &mut BERReaderSet) -> ASN1Result<Option<N::Value>> {
         read_by_tag::<Implicit<T, N>>(T::tag(), set)
+    }
+
+    ghost is_known = { refl };
+}
+
+impl<T: TagName> SetPart for AnyUnder<T> {
+    #[inline(always)]
+    fn read_chosen(set: &mut BERReaderSet) -> ASN1Result<Option<TaggedDerValue>> {
+        read_by_tag::<AnyUnder<T>>(T::tag(), set)
     }
 
     ghost is_known = { refl };
