@@ -3,6 +3,7 @@ use Rattle.std.proofs.Common.{◌≡◌, ◌↔◌, IsTrue, ℕ, ◌+◌, ◌<�
 use Rattle.std.specs.List.{AllByRecursion, concat}
 use Rattle.std.specs.Ordering.{is_lt}
 use Rattle.yasna_base.specs.Bits.{bits_tag}
+use Rattle.yasna_base.specs.Order.{tag_cmp}
 use Rattle.yasna_base.specs.Raw.{RawValue, IsRaw}
 use Rattle.yasna_base.specs.Set.{SetPart, parts_bytes}
 use Rattle.yasna_base.specs.declared.mode.BERMode.{BERMode}
@@ -15,7 +16,7 @@ use Rattle.yasna_bytes.specs.Walk.{element_of, TakesRaw, RejectsRaw}
 use Rattle.yasna_bytes.specs.declared.bytes.header.Rejection.{Rejection}
 use Rattle.yasna_bytes.specs.declared.bytes.walk.RawElement.{RawElement}
 use Rattle.asn1der_convert.specs.Rows.{IsElementPart, AreElements, part_of, part_tags, TakesFirst, NoFirst}
-use Rattle.asn1der_convert.specs.SetOrder.{set_order, InOrder}
+use Rattle.asn1der_convert.specs.SetOrder.{set_order, InOrder, AscendByTags}
 use Rattle.asn1der_convert.specs.Tree.{HaveOneTag}
 use Rattle.asn1der_convert.specs.declared.set_order.SetOrder.{SetOrder}
 
@@ -140,42 +141,63 @@ counted_next ps l x r count i f =
 pub counted_all : (ps : List SetPart) (l : List ℕ) (count : ℕ) → Counted ps l count → NoFirst l → count ≡ length ps
 counted_all ps l count i n = omega (arith, i.total, ap length (no_part i.others l i.elements n))
 
--- what is left of elements in order, after the last one that was met
-pub record OrderLeft (o : SetOrder) (ps : List SetPart) (x : RawElement) (l : List ℕ) : Type 0 where
+-- what P says of elements it says of the last one that was met and those that are left
+pub record OrderLeft (P : List SetPart → Type 0) (ps : List SetPart) (x : RawElement) (l : List ℕ) : Type 0 where
   pub others : List SetPart
   pub elements : AreElements others l
-  pub same : InOrder o ps ↔ InOrder o (part_of x ∷ others)
+  pub same : P ps ↔ P (part_of x ∷ others)
 
-pub order_begin : (o : SetOrder) (ps : List SetPart) (s : List ℕ) (x : RawElement) (r : List ℕ) → AreElements ps s → TakesFirst s x r → OrderLeft o ps x r
-order_begin o ps s x r a f =
+pub order_begin : (P : List SetPart → Type 0) (ps : List SetPart) (s : List ℕ) (x : RawElement) (r : List ℕ) → AreElements ps s → TakesFirst s x r →
+    OrderLeft P ps x r
+order_begin P ps s x r a f =
     let h = first_part ps s x r a f in
-    record { others = h.others; elements = h.elements; same = subst (λ (qs : List SetPart). InOrder o ps ↔ InOrder o qs) h.is (λ i. i, λ i. i) }
+    record { others = h.others; elements = h.elements; same = subst (λ (qs : List SetPart). P ps ↔ P qs) h.is (λ i. i, λ i. i) }
 
-pub order_next : (o : SetOrder) (ps : List SetPart) (x y : RawElement) (l r : List ℕ) → OrderLeft o ps x l → TakesFirst l y r →
-    is_lt (set_order o (part_of y) (part_of x)) ≡ false → OrderLeft o ps y r
-order_next o ps x y l r i f e =
+-- what holds of an element, the next one and others holds of the next one and the others
+abbrev pub Passes : (List SetPart → Type 0) → SetPart → SetPart → Type 0
+Passes P p q = (qs : List SetPart) → P (p ∷ q ∷ qs) ↔ P (q ∷ qs)
+
+-- it doesn't hold of an element, the next one and any others
+abbrev pub Stops : (List SetPart → Type 0) → SetPart → SetPart → Type 0
+Stops P p q = (qs : List SetPart) → P (p ∷ q ∷ qs) → ⊥
+
+pub order_next : (P : List SetPart → Type 0) (ps : List SetPart) (x y : RawElement) (l r : List ℕ) → OrderLeft P ps x l → TakesFirst l y r →
+    Passes P (part_of x) (part_of y) → OrderLeft P ps y r
+order_next P ps x y l r i f pass =
     let h = first_part i.others l y r i.elements f in
-    let same = subst (λ (qs : List SetPart). InOrder o ps ↔ InOrder o (part_of x ∷ qs)) h.is i.same in
-    record {
-      others = h.others;
-      elements = h.elements;
-      same = (λ a. (same.0 a).1, λ a. same.1 ((λ (k : is_lt (set_order o (part_of y) (part_of x)) ≡ true). absurd (cc)), a));
-    }
+    let same = subst (λ (qs : List SetPart). P ps ↔ P (part_of x ∷ qs)) h.is i.same in
+    let step = pass h.others in
+    record { others = h.others; elements = h.elements; same = (λ a. step.0 (same.0 a), λ a. same.1 (step.1 a)) }
 
-pub order_stops : (o : SetOrder) (ps : List SetPart) (x y : RawElement) (l r : List ℕ) (b : Bool) → OrderLeft o ps x l → TakesFirst l y r →
-    is_lt (set_order o (part_of y) (part_of x)) ≡ true → (IsTrue b → ⊥) → IsTrue b ↔ InOrder o ps
-order_stops o ps x y l r b i f e fails =
+pub order_stops : (P : List SetPart → Type 0) (ps : List SetPart) (x y : RawElement) (l r : List ℕ) (b : Bool) → OrderLeft P ps x l → TakesFirst l y r →
+    Stops P (part_of x) (part_of y) → (IsTrue b → ⊥) → IsTrue b ↔ P ps
+order_stops P ps x y l r b i f stop fails =
     let h = first_part i.others l y r i.elements f in
-    let same = subst (λ (qs : List SetPart). InOrder o ps ↔ InOrder o (part_of x ∷ qs)) h.is i.same in
-    (λ holds. absurd (fails holds), λ a. absurd ((same.0 a).0 e))
+    let same = subst (λ (qs : List SetPart). P ps ↔ P (part_of x ∷ qs)) h.is i.same in
+    (λ holds. absurd (fails holds), λ a. absurd (stop h.others (same.0 a)))
 
-pub order_ends : (o : SetOrder) (ps : List SetPart) (x : RawElement) (l : List ℕ) (b : Bool) → OrderLeft o ps x l → NoFirst l → IsTrue b → IsTrue b ↔ InOrder o ps
-order_ends o ps x l b i n holds =
-    let same = subst (λ (qs : List SetPart). InOrder o ps ↔ InOrder o (part_of x ∷ qs)) (no_part i.others l i.elements n) i.same in
-    (λ y. same.1 ((λ k. k), tt), λ a. holds)
+pub order_ends : (P : List SetPart → Type 0) (ps : List SetPart) (x : RawElement) (l : List ℕ) (b : Bool) → OrderLeft P ps x l → NoFirst l →
+    P (part_of x ∷ []) → IsTrue b → IsTrue b ↔ P ps
+order_ends P ps x l b i n one holds =
+    let same = subst (λ (qs : List SetPart). P ps ↔ P (part_of x ∷ qs)) (no_part i.others l i.elements n) i.same in
+    (λ y. same.1 one, λ a. holds)
 
-pub order_none : (o : SetOrder) (ps : List SetPart) (s : List ℕ) (b : Bool) → AreElements ps s → NoFirst s → IsTrue b → IsTrue b ↔ InOrder o ps
-order_none o ps s b a n holds = (λ y. subst (InOrder o) (sym (no_part ps s a n)) tt, λ i. holds)
+pub order_none : (P : List SetPart → Type 0) (ps : List SetPart) (s : List ℕ) (b : Bool) → AreElements ps s → NoFirst s → P [] → IsTrue b → IsTrue b ↔ P ps
+order_none P ps s b a n none holds = (λ y. subst P (sym (no_part ps s a n)) none, λ i. holds)
+
+-- an element is in order after one that it isn't before
+pub in_order_passes : (o : SetOrder) (p q : SetPart) → is_lt (set_order o q p) ≡ false → Passes (InOrder o) p q
+in_order_passes o p q e qs = (λ a. a.1, λ a. ((λ (k : is_lt (set_order o q p) ≡ true). absurd (cc)), a))
+
+pub in_order_stops : (o : SetOrder) (p q : SetPart) → is_lt (set_order o q p) ≡ true → Stops (InOrder o) p q
+in_order_stops o p q e qs a = a.0 e
+
+-- elements ascend by tags where the tag of the first is lower than that of the next one
+pub ascent_passes : (p q : SetPart) → is_lt (tag_cmp p.tag q.tag) ≡ true → Passes AscendByTags p q
+ascent_passes p q e qs = (λ a. a.1, λ a. (e, a))
+
+pub ascent_stops : (p q : SetPart) → is_lt (tag_cmp p.tag q.tag) ≡ false → Stops AscendByTags p q
+ascent_stops p q e qs a = let lower = a.0 in absurd (cc)
 
 -- two rows of elements are one
 pub elements_append : (ps qs : List SetPart) (a b : List ℕ) → AreElements ps a → AreElements qs b → AreElements (ps ++ qs) (a ++ b)

@@ -13,12 +13,12 @@ use Rattle.yasna_base.specs.declared.tag.Tag.{Tag}
 use Rattle.yasna_base.specs.declared.tag.TagClass.TheVariants.{Universal}
 use Rattle.asn1der_convert.specs.Rows.{AreElements}
 use Rattle.asn1der_convert.specs.Parts.{IsPartAround}
-use Rattle.asn1der_convert.specs.SetOrder.{InOrder}
+use Rattle.asn1der_convert.specs.SetOrder.{InOrder, AscendByTags}
 use Rattle.asn1der_convert.specs.Tree.{Branch, boolean, bits, string, primitive, set_of, constructed, Tree, HasTree, tree_parts}
 use Rattle.asn1der_convert.specs.declared.ambiguity.Ambiguities.{Ambiguities}
 use Rattle.asn1der_convert.specs.declared.ambiguity.Ambiguity.{Ambiguity}
 use Rattle.asn1der_convert.specs.declared.ambiguity.Ambiguity.TheVariants.{Segments, ImplicitSetOf, Order}
-use Rattle.asn1der_convert.specs.declared.set_order.SetOrder.TheVariants.{Tags, Octets}
+use Rattle.asn1der_convert.specs.declared.set_order.SetOrder.TheVariants.{Octets}
 
 -- these elements may be the segments of a string: all are OCTET STRINGs, or all are BIT STRINGs (X.690, 8.6.4 and 8.7.3)
 abbrev pub MayBeSegments : List SetPart → Type 0
@@ -28,7 +28,7 @@ MayBeSegments ps = AllByRecursion (λ (p : SetPart). p.tag ≡ octets_tag) ps �
 abbrev pub IsCertain : Ambiguity → Tag → List SetPart → Type 0
 IsCertain Segments t ps = (t.tag_class ≡ Universal) ⊎ (MayBeSegments ps → ⊥)
 IsCertain ImplicitSetOf t ps = (t.tag_class ≡ Universal) ⊎ InOrder Octets ps
-IsCertain Order t ps = (t ≡ set_tag → ⊥) ⊎ InOrder Octets ps ⊎ InOrder Tags ps
+IsCertain Order t ps = (t ≡ set_tag → ⊥) ⊎ InOrder Octets ps ⊎ AscendByTags ps
 
 -- a constructed element has no such ambiguity, and S holds of each element within; a SET whose order is known has none itself
 abbrev pub IsSureBranch : {A : Type 0} → Ambiguity → (List A → List SetPart) → (A → Type 0) → Branch A → Type 0

@@ -33,6 +33,12 @@ abbrev pub InOrder : SetOrder → List SetPart → Type 0
 InOrder o [] = Unit {0}
 InOrder o (p ∷ ps) = (IsSwapped o p ps → ⊥) × InOrder o ps
 
+-- each element has a lower tag than the next one, as in a SET in DER, in which no tag is twice (X.690, 10.3; X.680, 27.3)
+abbrev pub AscendByTags : List SetPart → Type 0
+AscendByTags [] = Unit {0}
+AscendByTags (p ∷ []) = Unit {0}
+AscendByTags (p ∷ q ∷ ps) = (is_lt (tag_cmp p.tag q.tag) ≡ true) × AscendByTags (q ∷ ps)
+
 -- elements in the order of a SET OF
 abbrev pub by_octets : List SetPart → List SetPart
 by_octets ps = in_order (set_order Octets) ps

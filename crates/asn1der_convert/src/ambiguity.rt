@@ -6,7 +6,7 @@ ghost use Rattle.yasna_base.specs.Set.{SetPart};
 ghost use Rattle.asn1der_convert.specs.Rows.{AreElements};
 
 use crate::elements::all_have_tag;
-use crate::set_order::{SetOrder, are_in_order};
+use crate::set_order::{SetOrder, are_in_order, ascend_by_tags};
 use std::fmt;
 use yasna_base::tag::{Tag, TagClass};
 use yasna_base::tags::{TAG_BITSTRING, TAG_OCTETSTRING, TAG_SET};
@@ -19,7 +19,8 @@ pub enum Ambiguity {
     Segments,
     /// A constructed element whose tag isn't universal may be a SET OF, if its elements are out of order (X.690, 8.14.3 and 11.6).
     ImplicitSetOf,
-    /// A SET is ordered by tags, but a SET OF by octets: the elements are in neither order, and the two differ (X.690, 10.3 and 11.6).
+    /// A SET is ordered by tags, none of which is twice, but a SET OF by octets: the elements are in neither order, and the two differ
+    /// (X.690, 10.3 and 11.6; X.680, 27.3).
     Order,
 }
 
@@ -52,9 +53,7 @@ fn is_certain(ambiguity: Ambiguity, tag: Tag, elements: &[u8]) -> bool
             tag.tag_class == TagClass::Universal || are_in_order(SetOrder::Octets, elements)
         }
         Ambiguity::Order => {
-            tag != TAG_SET
-                || are_in_order(SetOrder::Octets, elements)
-                || are_in_order(SetOrder::Tags, elements)
+            tag != TAG_SET || are_in_order(SetOrder::Octets, elements) || ascend_by_tags(elements)
         }
     }
 }

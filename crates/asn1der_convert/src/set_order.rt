@@ -4,7 +4,7 @@ ghost use Rattle.std.specs.Ordering.{is_lt};
 ghost use Rattle.yasna_base.specs.Set.{SetPart, set_tag};
 ghost use Rattle.asn1der_convert.specs.Rows.{AreElements, part_of};
 ghost use Rattle.asn1der_convert.specs.Parts.{PutsInOrder};
-ghost use Rattle.asn1der_convert.specs.SetOrder.{set_order, InOrder};
+ghost use Rattle.asn1der_convert.specs.SetOrder.{set_order, InOrder, AscendByTags};
 
 use crate::agreement::is_order_known;
 use crate::elements::{first_element, have_one_tag};
@@ -45,6 +45,26 @@ pub fn are_in_order(order: SetOrder, elements: &[u8]) -> bool
     let mut left = others;
     while let Some((element, rest)) = first_element(left) {
         if is_before(order, element, last) {
+            return false;
+        }
+        last = element;
+        left = rest;
+    }
+    true
+}
+
+/// Whether each of these elements has a lower tag than the next one, as in a SET in DER: no tag is twice (X.690, 10.3; X.680, 27.3).
+pub fn ascend_by_tags(elements: &[u8]) -> bool
+    ensures { (ps : List SetPart) → AreElements ps elements.now → IsTrue result ↔ AscendByTags ps }
+{
+    let Some((first, others)) = first_element(elements) else {
+        return true;
+    };
+    let mut last = first;
+    let mut left = others;
+    while let Some((element, rest)) = first_element(left) {
+        let ascends = is_before(SetOrder::Tags, last, element);
+        if !ascends {
             return false;
         }
         last = element;

@@ -9,7 +9,7 @@ use yasna::ASN1ErrorKind::{Eof, Invalid, StackOverflow};
 use yasna::{ASN1ErrorKind, ASN1Result};
 
 // Elements in BER, the same in DER, and the first ambiguity of each kind: segments, an implicit SET OF, the order of a SET.
-static CONVERTED: [(&str, &str, [Option<usize>; 3]); 48] = [
+static CONVERTED: [(&str, &str, [Option<usize>; 3]); 51] = [
     // booleans
     ("010101", "0101FF", [None, None, None]),
     ("010100", "010100", [None, None, None]),
@@ -133,6 +133,22 @@ static CONVERTED: [(&str, &str, [Option<usize>; 3]); 48] = [
         "300A310882008100A0020500",
         "300A310882008100A0020500",
         [None, None, Some(2)],
+    ),
+    // a SET with a tag twice, which is in no order of a SET, and one whose tags are each lower than the next one
+    (
+        "310AA0020500A00205008100",
+        "310AA0020500A00205008100",
+        [None, None, Some(0)],
+    ),
+    (
+        "311C3006020100010100300F010100300A02010A30050101FF0500160160",
+        "311C3006020100010100300F010100300A02010A30050101FF0500160160",
+        [None, None, Some(0)],
+    ),
+    (
+        "310AA0020500A10205008200",
+        "310AA0020500A10205008200",
+        [None, None, None],
     ),
     // a type that is always primitive, and one that X.680 doesn't define
     ("0E8100", "0E00", [None, None, None]),
