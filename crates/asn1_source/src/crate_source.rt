@@ -4,7 +4,7 @@ use crate::canonical::is_body_canonical;
 use crate::constants::add_constants;
 use crate::differences::{Difference, differences_of, rejects_additions};
 use crate::exports::exports_of;
-use crate::head::{put_differences, put_path};
+use crate::head::{ModuleSource, put_differences, put_path};
 use crate::imports::Words;
 use crate::naming::UsedNames;
 use crate::open_choices::open_choices;
@@ -298,6 +298,7 @@ pub fn sources_of(
 // Appends what the list says of a type, after its path: a judgement, and each reason why it accepts more.
 fn put_judgement(
     alloc: Global,
+    modules: &[ModuleSource<'_>],
     definition: &Definition<'_>,
     differences: &[Difference],
     name: &TypeName,
@@ -316,7 +317,7 @@ fn put_judgement(
     } else {
         "\n"
     });
-    put_differences(alloc, body, differences, "    ", "\n", out);
+    put_differences(alloc, modules, body, differences, "    ", "\n", out);
 }
 
 /// A line for each type: its name, whether it accepts exactly what the module says, more, or not what a later version adds, and whether what BER
@@ -332,7 +333,14 @@ pub fn list_of(alloc: Global, source: &CrateSource<'_, '_>) -> Text {
         }
         put_path(definition.path.as_slice(), &mut out);
         match differences_of(alloc, definition, name) {
-            Ok(all) => put_judgement(alloc, definition, all.as_slice(), name, &mut out),
+            Ok(all) => put_judgement(
+                alloc,
+                source.modules,
+                definition,
+                all.as_slice(),
+                name,
+                &mut out,
+            ),
             Err(_) => out.cut(),
         }
     }

@@ -112,16 +112,33 @@ fn named_parts<'a>(alloc: Global, body: &Body<'a>) -> Result<Vec<NamedPart<'a>>,
     Ok(found)
 }
 
-// The part that a place is in: of those whose names are before it, the last one.
-fn part_at<'a>(parts: &[NamedPart<'a>], place: Place) -> Option<NamedPart<'a>> {
+// The offset where the assignment that a place is in begins.
+fn start_before(modules: &[ModuleSource<'_>], place: Place) -> usize {
+    let Some(module) = modules.get(place.module) else {
+        return 0;
+    };
+    let mut start = 0;
+    for assignment in module.tree.assignments.iter() {
+        let offset = name_of(assignment).offset;
+        if start < offset && offset <= place.offset {
+            start = offset;
+        }
+    }
+    start
+}
+
+// The part that a place is in: of those of its assignment whose names are before it, the last one.
+fn part_at<'a>(
+    modules: &[ModuleSource<'_>],
+    parts: &[NamedPart<'a>],
+    place: Place,
+) -> Option<NamedPart<'a>> {
+    let mut start = start_before(modules, place);
     let mut found: Option<NamedPart<'a>> = None;
     for part in parts {
-        let is_before = part.place.module == place.module && part.place.offset <= place.offset;
-        let is_later = match found {
-            Some(other) => other.place.offset < part.place.offset,
-            None => true,
-        };
-        if is_before && is_later {
+        let own = part.place;
+        if own.module == place.module && start <= own.offset && own.offset <= place.offset {
+            start = own.offset;
             found = Some(*part);
         }
     }
@@ -129,8 +146,13 @@ fn part_at<'a>(parts: &[NamedPart<'a>], place: Place) -> Option<NamedPart<'a>> {
 }
 
 // Appends why a type accepts more, and the name of the part where it does.
-fn put_difference(parts: &[NamedPart<'_>], difference: Difference, out: &mut Text) {
-    if let Some(part) = part_at(parts, difference.place) {
+fn put_difference(
+    modules: &[ModuleSource<'_>],
+    parts: &[NamedPart<'_>],
+    difference: Difference,
+    out: &mut Text,
+) {
+    if let Some(part) = part_at(modules, parts, difference.place) {
         out.say("`");
         out.put(part.name);
         out.say("`: ");
@@ -141,6 +163,7 @@ fn put_difference(parts: &[NamedPart<'_>], difference: Difference, out: &mut Tex
 /// Appends why a type accepts more than its module says: each reason between the first text and the last one.
 pub fn put_differences(
     alloc: Global,
+    modules: &[ModuleSource<'_>],
     body: &Body<'_>,
     differences: &[Difference],
     first: &str,
@@ -153,18 +176,24 @@ pub fn put_differences(
     };
     for one in differences {
         out.say(first);
-        put_difference(parts.as_slice(), *one, out);
+        put_difference(modules, parts.as_slice(), *one, out);
         out.say(last);
     }
 }
 
 // Appends what a type leaves out of its module.
-fn put_looser(alloc: Global, body: &Body<'_>, differences: &[Difference], out: &mut Text) {
+fn put_looser(
+    alloc: Global,
+    modules: &[ModuleSource<'_>],
+    body: &Body<'_>,
+    differences: &[Difference],
+    out: &mut Text,
+) {
     if differences.is_empty() {
         return;
     }
     out.say("//!\n//! It accepts more than the module says:\n//!\n");
-    put_differences(alloc, body, differences, "//! - ", ".\n", out);
+    put_differences(alloc, modules, body, differences, "//! - ", ".\n", out);
 }
 
 // Whether earlier versions leave out parts that are mandatory in this one.
@@ -244,7 +273,15 @@ pub fn put_head(
     put_unread(name, out);
     out.say(missing_text(&definition.body, name.is_open));
     match inner_differences(alloc, definition) {
-        Ok(differences) => put_looser(alloc, &definition.body, differences.as_slice(), out),
+        Ok(differences) => {
+            put_looser(
+                alloc,
+                modules,
+                &definition.body,
+                differences.as_slice(),
+                out,
+            )
+        }
         Err(_) => out.cut(),
     }
 }

@@ -315,7 +315,7 @@ const HEADS: &[u8] =
     b"M DEFINITIONS ::= BEGIN Head ::= SEQUENCE { id NULL, ..., ..., name UTF8String } Tail ::= SEQUENCE { id NULL, ... } END";
 
 // The lines of types that accept more than the module says, and of those that reject what a later version adds.
-static LISTED: [Row; 7] = [
+static LISTED: [Row; 8] = [
     (
         b"M DEFINITIONS ::= BEGIN Name ::= CHOICE { text BMPString (SIZE (1..8)), id NULL, other [0] BMPString (SIZE (9)) } END",
         "list",
@@ -350,6 +350,11 @@ static LISTED: [Row; 7] = [
         b"M DEFINITIONS ::= BEGIN Name ::= SEQUENCE { text BMPString (SIZE (1..8)), ..., ..., id NULL } END",
         "list",
         "Name: accepts more, rejects additions, canonical\n    `text`: a constraint isn't tested\n",
+    ),
+    (
+        b"M DEFINITIONS ::= BEGIN Name ::= SEQUENCE { text Text, id NULL } Text ::= BMPString (SIZE (1..8)) END",
+        "list",
+        "Name: accepts more, canonical\n    a constraint isn't tested\n",
     ),
 ];
 
