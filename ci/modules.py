@@ -139,9 +139,12 @@ Around: accepts more
 Element: accepts more
     the components of a SET with a part that may be any element aren't read
 """
-INCOMPLETE_LISTED = """Code: accepts more
+INCOMPLETE_CODE = """Code: accepts more
     `first`: a type that no module gives is any element
     `second`: a type that no module gives is any element
+"""
+INCOMPLETE_LISTED = f"""{INCOMPLETE_CODE}Tagged: accepts more
+    `third`: a type that no module gives is any element
 """
 REPORT_LISTED = "Report.choice: exact, canonical\nReport: exact, canonical\n"
 # The notations of the parts of a SET.
@@ -212,6 +215,7 @@ incomplete.asn1:3:56: a type that no module gives is any element
     Code ::= SEQUENCE { first Missing, second [1] EXPLICIT Other }
                                                            ^
 """
+ANY_UNDER = "type Parts = (AnyUnder<Context<2>>, ());\n"
 ANY_HEAD = """//! It accepts more than the module says:
 //!
 //! - `first`: a type that no module gives is any element.
@@ -277,9 +281,9 @@ def ends(folder):
     yield "what isn't ASN.1", run(folder, "--list", "malformed.asn1"), (1, "", IS_MALFORMED)
     yield "a name that isn't defined", run(folder, "--list", "unknown.asn1"), (1, KNOWN, IS_UNKNOWN)
     yield "names that aren't defined", run(folder, "--list", "incomplete.asn1"), (1, "", f"{IS_INCOMPLETE}{IS_TAGGED}")
-    yield "they as any element", run(folder, "--list", "--incomplete", "incomplete.asn1"), (1, INCOMPLETE_LISTED, IS_TAGGED)
+    yield "they as any element", run(folder, "--list", "--incomplete", "incomplete.asn1"), (0, INCOMPLETE_LISTED, "")
     words = ("--list", "--incomplete", "--strict", "--type", "Code", "incomplete.asn1")
-    yield "they with --strict", run(folder, *words), (1, INCOMPLETE_LISTED, f"{IS_TAGGED}{IS_ANY}")
+    yield "they with --strict", run(folder, *words), (1, INCOMPLETE_CODE, IS_ANY)
     yield "a type that isn't there", run(folder, "--list", "--type", "Missing", "first.asn1", "second.asn1"), (1, "", IS_MISSING)
     yield "a file that isn't there", run(folder, "--list", "missing.asn1")[0], 3
     yield "no file", run(folder, "--list")[0], 2
@@ -312,8 +316,9 @@ def crates(folder):
     yield "those that follow", MIXED_REST in (out / "sets/src/mixed_parts2.rt").read_text(), True
     yield "the parts of one that are tagged automatically", REPORT_PARTS in (out / "sets/src/report.rt").read_text(), True
     yield "a CHOICE in a SET", PICKED in (out / "sets/src/pick.rt").read_text(), True
-    yield "a crate with such types", run(folder, "--crate", "open", "--incomplete", "incomplete.asn1")[0], 1
+    yield "a crate with such types", run(folder, "--crate", "open", "--incomplete", "incomplete.asn1")[0], 0
     yield "what it accepts more", ANY_HEAD in (out / "open/src/code.rt").read_text(), True
+    yield "one under a tag", ANY_UNDER in (out / "open/src/tagged.rt").read_text(), True
     yield "what is rejected with --strict", run(folder, "--crate", "none", "--strict", "loose.asn1")[0], 1
     yield "no file of it", written(out / "none"), []
 

@@ -16,6 +16,7 @@
 //! | `@{`, `@}` | the same of the pairs of all files |
 //! | `@~` | the value `k` after the alternatives before this one, of the pairs of its file |
 
+use crate::shapes::is_missing;
 use crate::terms::{Aspect, TypeNames, put_notation};
 use crate::text::Text;
 use asn1_types::model::{Alternative, Notation, TagClass, TagLayer};
@@ -284,6 +285,10 @@ fn class_word(class: TagClass) -> &'static str {
 
 /// Appends the implicit tag that waits at a type within its own tags, where `u` waits outside of them.
 pub fn put_waiting_tag(notation: &Notation, out: &mut Text) {
+    if is_missing(notation) {
+        out.say("u");
+        return;
+    }
     out.repeat("(Some (tag_or ", count_tags(notation));
     out.say("u");
     let mut current = notation;

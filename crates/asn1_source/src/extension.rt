@@ -31,7 +31,7 @@ fn end_of_mandatory(parts: &[Part<'_>]) -> usize {
 // Whether tags distinguish these parts from any other element.
 fn are_tagged(parts: &[Part<'_>]) -> bool {
     for part in parts {
-        if matches!(&part.notation, Notation::Any) {
+        if matches!(&part.notation, Notation::Any | Notation::Missing) {
             return false;
         }
     }

@@ -203,6 +203,42 @@ pub static ANY: Form = Form {
     non_empty: "(any_non_empty _)",
 };
 
+/// Any element with a tag that no class is written before.
+pub static ANY_UNDER_CONTEXT: Form = Form {
+    notation: "AnyUnder<Context<#>>",
+    value: "TaggedDerValue",
+    law: "(any_under_lawful (context #))",
+    written: "",
+    non_empty: "(any_non_empty _)",
+};
+
+/// Any element with a tag of the class APPLICATION.
+pub static ANY_UNDER_APPLICATION: Form = Form {
+    notation: "AnyUnder<Application<#>>",
+    value: "TaggedDerValue",
+    law: "(any_under_lawful (application #))",
+    written: "",
+    non_empty: "(any_non_empty _)",
+};
+
+/// Any element with a tag of the class PRIVATE.
+pub static ANY_UNDER_PRIVATE: Form = Form {
+    notation: "AnyUnder<Private<#>>",
+    value: "TaggedDerValue",
+    law: "(any_under_lawful (private #))",
+    written: "",
+    non_empty: "(any_non_empty _)",
+};
+
+/// Any element with a tag of the class UNIVERSAL.
+pub static ANY_UNDER_UNIVERSAL: Form = Form {
+    notation: "AnyUnder<Universal<#>>",
+    value: "TaggedDerValue",
+    law: "(any_under_lawful (universal #))",
+    written: "",
+    non_empty: "(any_non_empty _)",
+};
+
 /// INTEGER from 0 to the second number.
 pub static AT_MOST: Form = Form {
     notation: "Bounded<u64, AtMost<%>>",

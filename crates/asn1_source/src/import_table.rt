@@ -34,6 +34,7 @@ Rattle.yasna_notation_constraints.specs.Numbers: between same_number
 Rattle.yasna_notation_constraints.specs.OrDefault: or_default_laws or_default_writes
 Rattle.yasna_notation_constraints.specs.Sizes: bit_sizes from_on
 Rattle.yasna_notation_constraints.specs.TestedDefaults: one_list one_seen
+Rattle.yasna_notation_types.specs.AnyUnder: any_under_lawful
 Rattle.yasna_notation_types.specs.Making: explicit_application explicit_application_written explicit_private explicit_private_written
 Rattle.yasna_notation_types.specs.Making: in_private in_universal under_private under_universal
 Rattle.yasna_notation_types.specs.Named: named_lawful named_written
@@ -96,7 +97,7 @@ yasna_notation: PartsBy>Parts PartsBy PrintableString Represents Sequence Sequen
 yasna_notation_constraints: Checked CheckedBy Identifier=TestedIdentifier IdentifierValue IntegerFrom IntegerFromTo IntegerUpTo Natural
 yasna_notation_constraints: Octets=TestedOctets OctetsValue OrDefault Signed SizeFrom SizeFromTo SizeIs Text=TestedText TextValue True Unset
 yasna_notation_constraints: accepts_fields
-yasna_notation_types: BmpString Named NamedBits Numbered OpenChoice Others Possible PossibleDefault Private Rest Set SetPart SetParts Universal
+yasna_notation_types: AnyUnder BmpString Named NamedBits Numbered OpenChoice Others Possible PossibleDefault Private Rest Set SetPart SetParts Universal
 yasna_notation_types: explicit_fields_len implicit_fields_len prepend_explicit_fields prepend_implicit_fields read_part write_explicit_fields
 yasna_notation_types: write_implicit_fields
 ";

@@ -224,7 +224,7 @@ pub static SET_LAW: Listing = Listing {
 
 /// Whether a part is any element, and OPTIONAL.
 pub fn is_last(part: &Part<'_>) -> bool {
-    matches!(&part.notation, Notation::Any) && is_optional(part)
+    matches!(&part.notation, Notation::Any | Notation::Missing) && is_optional(part)
 }
 
 // Whether a part may be absent, and has no default. An addition may be, as earlier versions leave it out.

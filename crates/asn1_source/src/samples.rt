@@ -141,7 +141,7 @@ impl Sampler<'_> {
     fn put_simple(&self, notation: &Notation, out: &mut Text) -> bool {
         match notation {
             Notation::Boolean => put_primitive(1, &[255], out),
-            Notation::Null | Notation::Any => put_primitive(5, &[], out),
+            Notation::Null | Notation::Any | Notation::Missing => put_primitive(5, &[], out),
             Notation::Integer(bounds, _) => put_number(2, number_in(bounds), self.alloc, out),
             Notation::ObjectIdentifier => put_primitive(6, &[42, 3], out),
             Notation::NamedBits(_, _) => put_primitive(3, &[7, 128], out),

@@ -54,8 +54,11 @@ fn universal_number(notation: &Notation) -> Option<u64> {
         Notation::OctetsUnder(number) | Notation::ElementsUnder(number) => *number,
         Notation::SequenceOf(_, _) => 16,
         Notation::SetOf(_, _) => 17,
-        Notation::Tagged(_, _) | Notation::Any | Notation::Defined(_) | Notation::Imported(_) =>
-            return None,
+        Notation::Tagged(_, _)
+        | Notation::Any
+        | Notation::Missing
+        | Notation::Defined(_)
+        | Notation::Imported(_) => return None,
     })
 }
 
@@ -211,7 +214,7 @@ fn unread_part(part: &Part<'_>, parts: &[Part<'_>], names: &TypeNames) -> Option
     match (&part.notation, span_in(&part.notation, names)) {
         (_, Some(span)) if is_around_any(span, parts, names) => Some(AROUND),
         (_, Some(_)) => None,
-        (Notation::Any, None) => Some(ANY_PART),
+        (Notation::Any | Notation::Missing, None) => Some(ANY_PART),
         (_, None) => Some(CHOICE_PART),
     }
 }

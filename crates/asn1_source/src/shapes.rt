@@ -233,12 +233,36 @@ pub fn tag_shape(tag: TagLayer) -> Shape {
     numbered(form, tag.number, 0)
 }
 
+// The form of any element with a tag.
+fn given_shape(tag: TagLayer) -> Shape {
+    let form = match tag.class {
+        TagClass::Application => &ANY_UNDER_APPLICATION,
+        TagClass::Private => &ANY_UNDER_PRIVATE,
+        TagClass::Universal => &ANY_UNDER_UNIVERSAL,
+        TagClass::ContextSpecific => &ANY_UNDER_CONTEXT,
+    };
+    numbered(form, tag.number, 0)
+}
+
+/// Whether a notation is of a type that no module gives, under no tag that is EXPLICIT. Under tags it is any element with the outermost one.
+pub fn is_missing(notation: &Notation) -> bool {
+    let mut current = notation;
+    while let Notation::Tagged(tag, inner) = current {
+        if tag.mode == TagMode::Explicit {
+            return false;
+        }
+        current = &**inner;
+    }
+    matches!(current, Notation::Missing)
+}
+
 /// The form of a notation, or `None` for a type by its name.
 pub fn shape_of(notation: &Notation, is_default: bool) -> Option<Shape> {
     Some(match notation {
         Notation::Defined(_) | Notation::Imported(_) => return None,
         Notation::Integer(bounds, _) => integer_shape(*bounds, is_default),
         Notation::Text(kind, _) => plain(text_form(*kind)),
+        Notation::Tagged(tag, _) if is_missing(notation) => given_shape(*tag),
         Notation::Tagged(tag, _) => tag_shape(*tag),
         Notation::OctetsUnder(tag) => numbered(&OCTETS_UNDER, *tag, 0),
         Notation::ElementsUnder(tag) => numbered(&ELEMENTS_UNDER, *tag, 0),
@@ -250,7 +274,7 @@ pub fn shape_of(notation: &Notation, is_default: bool) -> Option<Shape> {
         Notation::NamedBits(_, _) => plain(&NAMED_BITS),
         Notation::UtcTime => plain(&UTC_TIME),
         Notation::GeneralizedTime => plain(&GENERALIZED_TIME),
-        Notation::Any => plain(&ANY),
+        Notation::Any | Notation::Missing => plain(&ANY),
         Notation::SequenceOf(_, _) => plain(&SEQUENCE_OF),
         Notation::SetOf(_, _) => plain(&SET_OF),
     })

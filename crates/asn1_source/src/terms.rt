@@ -154,6 +154,14 @@ fn has_inside(shape: Option<Shape>, aspect: Aspect) -> bool {
     }
 }
 
+// Whether a form is around what is inside.
+fn is_around(shape: Option<Shape>) -> bool {
+    match shape {
+        Some(shape) => shape.form.notation.contains('@'),
+        None => false,
+    }
+}
+
 // Appends a text with the name of a type and of its laws.
 fn put_name_in(text: &str, name: &TypeName, out: &mut Text) {
     for octet in text.as_bytes() {
@@ -219,7 +227,9 @@ pub fn put_notation(
     match notation {
         Notation::SequenceOf(inner, _) => put_notation(inner, aspect, is_default, names, out),
         Notation::SetOf(inner, _) => put_notation(inner, aspect, is_default, names, out),
-        Notation::Tagged(_, inner) => put_notation(inner, aspect, is_default, names, out),
+        Notation::Tagged(_, inner) if is_around(shape) => {
+            put_notation(inner, aspect, is_default, names, out)
+        }
         _ => {}
     }
     put_after(shape, aspect, out);

@@ -37,10 +37,11 @@ static RESERVED_IN_CLAUSES: [&str; 18] = [
 ];
 
 // Names that the sources themselves use.
-static TAKEN: [&str; 119] = [
+static TAKEN: [&str; 120] = [
     "ASN1Result",
     "Alternatives",
     "Any",
+    "AnyUnder",
     "Application",
     "AtMost",
     "BERMode",

@@ -1,5 +1,5 @@
 -- Types that are left open, and those whose elements are kept as they came.
-use Rattle.std.proofs.Common.{◌≡◌, ◌∙◌, ◌<◌, ◌≤◌, Bool, true, List, [], ◌∷◌, Result, Ok, Err, refl, sym, subst, length, arith}
+use Rattle.std.proofs.Common.{◌≡◌, ◌∙◌, ◌<◌, ◌≤◌, Bool, true, List, [], ◌∷◌, Result, Ok, Err, refl, sym, subst, ap, length, arith}
 use Rattle.std.specs.Global.{Box}
 use Rattle.std.specs.List.{list_any}
 use Rattle.std.specs.Prelude.{codes}
@@ -8,8 +8,10 @@ use Rattle.asn1_types.specs.declared.model.Notation.{Notation}
 use Rattle.asn1_types.specs.declared.model.Notation.TheVariants as notations
 use Rattle.asn1_types.specs.declared.model.TagClass.{TagClass}
 use Rattle.asn1_types.specs.declared.problem.Stop.{Stop}
+use Rattle.asn1_types.specs.declared.resolver.Resolver.{Resolver}
+use Rattle.asn1_types.specs.Context.{Context, IsUnchanged}
 use Rattle.asn1_types.specs.Names.{has_text}
-use Rattle.asn1_types.specs.Notations.{HasElements, IsAsItCame, IsElementsOf, IsOfField, IsOpenType, IsUnderLayer, elements_by, field, parameter, under_its_tag}
+use Rattle.asn1_types.specs.Notations.{HasElements, IsAsItCame, IsElementsOf, IsOfField, IsOpenType, IsUnderLayer, elements_by, field, no_type, parameter, under_its_tag}
 use Rattle.asn1_types.specs.Tags.{class_written}
 use Rattle.asn1_types.specs.Trees.{IsWithin}
 use Rattle.asn1_syntax.specs.declared.token.Token.{Token}
@@ -17,18 +19,35 @@ use Rattle.asn1_syntax.specs.declared.tree.TagNotation.{TagNotation}
 use Rattle.asn1_syntax.specs.declared.tree.TypeNotation.{TypeNotation}
 use Rattle.asn1_syntax.specs.declared.tree.TypeNotation.TheVariants as trees
 
-one_is_open : (words : List Token) → 1 ≤ length words → length words < 2 → IsOpenType words notations.Any
+one_is_open : {incomplete : Bool} (words : List Token) → 1 ≤ length words → length words < 2 → IsOpenType incomplete words notations.Any
 one_is_open [] low high = absurd (omega (arith, low))
 one_is_open (a ∷ []) low high = parameter refl refl
 one_is_open (a ∷ b ∷ more) low high = absurd (omega (arith, high))
 
 -- one word is left open
-pub as_parameter : (given words : List Token) → given ≡ words → 1 ≤ length given → length given < 2 → IsOpenType words notations.Any
-as_parameter given words same low high = subst (λ (ws : List Token). IsOpenType ws notations.Any) same (one_is_open given low high)
+pub as_parameter : {incomplete : Bool} (given words : List Token) → given ≡ words → 1 ≤ length given → length given < 2 →
+    IsOpenType incomplete words notations.Any
+as_parameter {incomplete} given words same low high = subst (λ (ws : List Token). IsOpenType incomplete ws notations.Any) same (one_is_open given low high)
+
+one_is_missing : {incomplete : Bool} (words : List Token) → incomplete ≡ true → 1 ≤ length words → length words < 2 →
+    IsOpenType incomplete words notations.Missing
+one_is_missing [] is low high = absurd (omega (arith, low))
+one_is_missing (a ∷ []) is low high = no_type is refl refl
+one_is_missing (a ∷ b ∷ more) is low high = absurd (omega (arith, high))
+
+-- one word is the name of a type that no module gives
+pub as_missing : {incomplete : Bool} (given words : List Token) → incomplete ≡ true → given ≡ words → 1 ≤ length given → length given < 2 →
+    IsOpenType incomplete words notations.Missing
+as_missing {incomplete} given words is same low high =
+    subst (λ (ws : List Token). IsOpenType incomplete ws notations.Missing) same (one_is_missing given is low high)
+
+-- whether modules may be absent stays
+pub still_incomplete : {a b : Resolver} → IsUnchanged a b → a.is_incomplete ≡ true → b.is_incomplete ≡ true
+still_incomplete same is = ap (λ (k : Context). k.is_incomplete) same.context ∙ is
 
 -- words with `&` name a field
-pub as_field : (given words : List Token) (found : Bool) {n : Notation} → given ≡ words → found ≡ list_any (has_text (codes "&")) given →
-    found ≡ true → IsOfField n → IsOpenType words n
+pub as_field : {incomplete : Bool} (given words : List Token) (found : Bool) {n : Notation} → given ≡ words →
+    found ≡ list_any (has_text (codes "&")) given → found ≡ true → IsOfField n → IsOpenType incomplete words n
 as_field given words found same is there of =
     field (subst (λ (ws : List Token). list_any (has_text (codes "&")) ws ≡ true) same (sym is ∙ there)) of
 

@@ -1,5 +1,5 @@
 -- What is resolved holds while more is resolved.
-use Rattle.std.proofs.Common.{◌≡◌, ℕ, List, [], ◌∷◌, ◌++◌, Option, refl, sym, subst, ◌∙◌}
+use Rattle.std.proofs.Common.{◌≡◌, ℕ, Bool, List, [], ◌∷◌, ◌++◌, Option, refl, sym, subst, ◌∙◌}
 use Rattle.asn1_types.specs.declared.components.WrittenPart.{WrittenPart}
 use Rattle.asn1_types.specs.declared.model.Body.{Body}
 use Rattle.asn1_types.specs.declared.model.Definition.{Definition}
@@ -25,7 +25,7 @@ use Rattle.asn1_syntax.specs.declared.tree.PlainType.{PlainType}
 use Rattle.asn1_syntax.specs.declared.tree.TypeNotation.{TypeNotation}
 
 abbrev pub later_of : Context → List Definition → List TagSet → Context
-later_of c ds ss = record { modules = c.modules; known = c.known; definitions = ds; sets = ss }
+later_of c ds ss = record { modules = c.modules; known = c.known; is_incomplete = c.is_incomplete; definitions = ds; sets = ss }
 
 module _ (c : Context) (ds : List Definition) (ss : List TagSet) (more_ds : Stays c.definitions ds) (more_ss : Stays c.sets ss) where
   defined_later : {place : AssignmentPlace} (i : ℕ) → IsDefinedAt c place i → IsDefinedAt (later_of c ds ss) place i
@@ -94,12 +94,19 @@ module _ (c : Context) (ds : List Definition) (ss : List TagSet) (more_ds : Stay
       definitions_are.one_more set (definitions_later before) (definition_later is)
       (untagged_within_later c.known c.sets ss more_ss d.tags.items d.body set.is_untagged untagged)
 
--- the modules and the types of other crates are the same
+-- the modules, the types of other crates and whether modules may be absent are the same
 carry : (F : Context → Type 0) (c k : Context) → Grows c k → F (later_of c k.definitions k.sets) → F k
 carry F c k g is =
-    let P : List Module → Type 0 = λ ms. F (record { modules = ms; known = k.known; definitions = k.definitions; sets = k.sets }) in
-    let Q : List KnownType → Type 0 = λ ks. F (record { modules = c.modules; known = ks; definitions = k.definitions; sets = k.sets }) in
-    subst P (sym g.modules) (subst Q (sym g.known) is)
+    let of : List Module → List KnownType → Bool → Context = λ ms ks b. record {
+      modules = ms;
+      known = ks;
+      is_incomplete = b;
+      definitions = k.definitions;
+      sets = k.sets;
+    } in
+    subst (λ (ms : List Module). F (of ms k.known k.is_incomplete)) (sym g.modules)
+    (subst (λ (ks : List KnownType). F (of c.modules ks k.is_incomplete)) (sym g.known)
+    (subst (λ (b : Bool). F (of c.modules c.known b)) (sym g.is_incomplete) is))
 
 pub grow_notation : {c k : Context} → Grows c k → {m : ℕ} {t : TypeNotation} {n : Notation} → IsNotation c m t n → IsNotation k m t n
 grow_notation {c} {k} g {m} {t} {n} is = carry (λ x. IsNotation x m t n) c k g (notation_later c k.definitions k.sets g.definitions g.sets is)
@@ -132,12 +139,13 @@ grow_untagged {c} {k} g d set is =
     (untagged_within_later c.known c.sets k.sets g.sets d.tags.items d.body set.is_untagged is)
 
 pub grows_same : (c : Context) → Grows c c
-grows_same c = record { modules = refl; known = refl; definitions = λ i x is. is; sets = λ i x is. is }
+grows_same c = record { modules = refl; known = refl; is_incomplete = refl; definitions = λ i x is. is; sets = λ i x is. is }
 
 pub grows_then : {a b c : Context} → Grows a b → Grows b c → Grows a c
 grows_then g h = record {
   modules = h.modules ∙ g.modules;
   known = h.known ∙ g.known;
+  is_incomplete = h.is_incomplete ∙ g.is_incomplete;
   definitions = λ i x is. h.definitions i x (g.definitions i x is);
   sets = λ i x is. h.sets i x (g.sets i x is);
 }
@@ -174,6 +182,7 @@ module _ {a b : Context} {index assignment : ℕ} {place : Place} {tags : List T
       record {
         modules = added.modules;
         known = added.known;
+        is_incomplete = added.is_incomplete;
         definitions = subst P (sym added.definitions) (stays_in_more a.definitions (added.definition ∷ []));
         sets = subst Q (sym added.sets) (stays_in_more a.sets (added.set ∷ []));
       }

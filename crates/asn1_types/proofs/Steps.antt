@@ -123,7 +123,7 @@ module _ (k : Context) (m : ℕ) (v : TypeNotation) where
 
 -- an open type, whose first word is none that begins a type
 pub as_left_open : (k : Context) (t : PlainType) {word : Token} (r : Result (Option Notation) Stop) → slice_get t.words.items 0 ≡ Some word →
-    IsNoWord word.text.now → IfOk r (λ found. IfSome found (IsOpenType t.words.items)) → IfOk r (λ found. IfSome found (IsOwn k t))
+    IsNoWord word.text.now → IfOk r (λ found. IfSome found (IsOpenType k.is_incomplete t.words.items)) → IfOk r (λ found. IfSome found (IsOwn k t))
 as_left_open k t (Ok (Some n)) first none is = notations_are.left_open first none is
 as_left_open k t (Ok None) first none is = tt
 as_left_open k t (Err e) first none is = tt

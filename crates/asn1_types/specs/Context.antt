@@ -1,5 +1,5 @@
 -- What is resolved of modules, at a time.
-use Rattle.std.specs.Prelude.{◌≡◌, ℕ, List, Some, [], ◌∷◌, ◌++◌, length, slice_get}
+use Rattle.std.specs.Prelude.{◌≡◌, ℕ, Bool, List, Some, [], ◌∷◌, ◌++◌, length, slice_get}
 use Rattle.asn1_types.specs.declared.model.Body.{Body}
 use Rattle.asn1_types.specs.declared.model.Definition.{Definition}
 use Rattle.asn1_types.specs.declared.model.KnownType.{KnownType}
@@ -11,18 +11,31 @@ use Rattle.asn1_types.specs.declared.tags_of_types.TagSet.{TagSet}
 use Rattle.asn1_types.specs.Untagged.{IsUntaggedWithin}
 use Rattle.asn1_syntax.specs.declared.tree.Module.{Module}
 
--- the modules, the types of other crates, and what is resolved: definitions, and the tags that their encodings begin with
+-- the modules, the types of other crates, whether modules may be absent, and what is resolved: definitions, and the tags that their encodings begin with
 pub record Context : Type 0 where
   pub modules : List Module
   pub known : List KnownType
+  pub is_incomplete : Bool
   pub definitions : List Definition
   pub sets : List TagSet
 
 abbrev pub context_of : Resolver → Context
-context_of r = record { modules = r.scope.modules.now; known = r.scope.known.now; definitions = r.definitions.items; sets = r.tag_sets.items }
+context_of r = record {
+  modules = r.scope.modules.now;
+  known = r.scope.known.now;
+  is_incomplete = r.is_incomplete;
+  definitions = r.definitions.items;
+  sets = r.tag_sets.items;
+}
 
-abbrev pub resolved_of : List Module → List KnownType → Resolved → Context
-resolved_of modules known resolved = record { modules = modules; known = known; definitions = resolved.definitions.items; sets = resolved.tag_sets.items }
+abbrev pub resolved_of : List Module → List KnownType → Bool → Resolved → Context
+resolved_of modules known is_incomplete resolved = record {
+  modules = modules;
+  known = known;
+  is_incomplete = is_incomplete;
+  definitions = resolved.definitions.items;
+  sets = resolved.tag_sets.items;
+}
 
 -- what is at an index of a list is there in another one too
 abbrev pub Stays : {A : Type 0} → List A → List A → Type 0
@@ -32,6 +45,7 @@ Stays {A} before after = (i : ℕ) (x : A) → slice_get before i ≡ Some x →
 pub record Grows (before after : Context) : Type 0 where
   pub modules : after.modules ≡ before.modules
   pub known : after.known ≡ before.known
+  pub is_incomplete : after.is_incomplete ≡ before.is_incomplete
   pub definitions : Stays before.definitions after.definitions
   pub sets : Stays before.sets after.sets
 
@@ -41,6 +55,7 @@ pub record IsAdded (before after : Context) (index : ℕ) (place : Place) (assig
   pub set : TagSet
   pub modules : after.modules ≡ before.modules
   pub known : after.known ≡ before.known
+  pub is_incomplete : after.is_incomplete ≡ before.is_incomplete
   pub definitions : after.definitions ≡ before.definitions ++ definition ∷ []
   pub sets : after.sets ≡ before.sets ++ set ∷ []
   pub at : index ≡ length before.definitions

@@ -67,10 +67,12 @@ pub data IsOfField (n : Notation) : Type 0 where
   integer_field : {bounds : IntegerBounds} {names : Option ℕ} → n ≡ notations.Integer bounds names → IsOfField n
   boolean_field : n ≡ notations.Boolean → IsOfField n
 
--- a type that is left open: any element for a parameter, which is one word (X.683), and a field of a class, which `&` is before
-pub data IsOpenType (words : List Token) (n : Notation) : Type 0 where
-  parameter : {name : Token} → words ≡ name ∷ [] → n ≡ notations.Any → IsOpenType words n
-  field : list_any (has_text (codes "&")) words ≡ true → IsOfField n → IsOpenType words n
+-- a type that is left open: any element for a parameter, which is one word (X.683), and a field of a class, which `&` is before. Where modules may be
+-- absent, one word is also the name of a type that no module gives
+pub data IsOpenType (is_incomplete : Bool) (words : List Token) (n : Notation) : Type 0 where
+  parameter : {name : Token} → words ≡ name ∷ [] → n ≡ notations.Any → IsOpenType is_incomplete words n
+  field : list_any (has_text (codes "&")) words ≡ true → IsOfField n → IsOpenType is_incomplete words n
+  no_type : {name : Token} → is_incomplete ≡ true → words ≡ name ∷ [] → n ≡ notations.Missing → IsOpenType is_incomplete words n
 
 -- the definition at an index is that of the assignment at a place: its own place is that of the name that is assigned
 pub record IsDefinedAt (c : Context) (place : AssignmentPlace) (index : ℕ) : Type 0 where
@@ -95,7 +97,7 @@ pub data IsOwn (c : Context) (t : PlainType) (n : Notation) : Type 0 where
   builtin : {word : Token} {b : Builtin} → slice_get t.words.items 0 ≡ Some word → IsWordOf b word.text.now → IsOfBuiltin n b → IsOwn c t n
   enumerated : {word : Token} {index : ℕ} → slice_get t.words.items 0 ≡ Some word → IsWordOf builtins.Enumerated word.text.now →
       n ≡ notations.Defined index → IsEnumeratedAt c index → IsOwn c t n
-  left_open : {word : Token} → slice_get t.words.items 0 ≡ Some word → IsNoWord word.text.now → IsOpenType t.words.items n → IsOwn c t n
+  left_open : {word : Token} → slice_get t.words.items 0 ≡ Some word → IsNoWord word.text.now → IsOpenType c.is_incomplete t.words.items n → IsOwn c t n
 
 -- a SET OF or a SEQUENCE OF, of an element in a box
 abbrev pub list_by : Bool → Box Notation → Size → Notation

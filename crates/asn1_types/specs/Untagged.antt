@@ -16,7 +16,8 @@ abbrev pub is_untagged_known : Option KnownType → Option Bool
 is_untagged_known None = None
 is_untagged_known (Some known) = Some known.is_untagged
 
--- whether a notation is untagged: any element is; a definition and a type of another crate are what is known of them; no other notation is
+-- whether a notation is untagged: any element is; a definition and a type of another crate are what is known of them; no other notation is. So a type
+-- that no module gives counts as tagged: an IMPLICIT tag before it stays IMPLICIT
 pub data IsUntaggedAs (known : List KnownType) (sets : List TagSet) (n : Notation) (b : Bool) : Type 0 where
   open_type : n ≡ notations.Any → b ≡ true → IsUntaggedAs known sets n b
   of_definition : {index : ℕ} → n ≡ notations.Defined index → is_untagged_set (slice_get sets index) ≡ Some b → IsUntaggedAs known sets n b

@@ -26,8 +26,8 @@
 //!   own notation. A parameter is any element, and so is a field of a class whose type has none of four words. A type inside itself has the elements
 //!   of what its name means, under the tag before it.
 //!
-//! The last of these leaves open which one-word names are parameters, or types that no module gives, which type a field of a class has, and the items of
-//! an ENUMERATED.
+//! The last of these leaves open which one-word names are parameters, which type a field of a class has, and the items of an ENUMERATED. Of
+//! `resolve_incomplete` it also leaves open which one-word names are of types that no module gives. `resolve` has no such type.
 //!
 //! Only tested are these, and what constraints are resolved to, and values but the numbers of tags.
 //!

@@ -203,6 +203,9 @@ pub enum Notation {
     GeneralizedTime,
     /// Any element: ANY of X.208, an open type, or a type that is kept as it came.
     Any,
+    /// A type that no module gives: any element. Under an IMPLICIT tag it is any element with that tag, since its own tag isn't known. Only
+    /// `resolve_incomplete` has it.
+    Missing,
     /// The contents as octets under this UNIVERSAL tag: strings whose characters are not read, and REAL.
     OctetsUnder(u64),
     /// Elements that are kept as they came, under this UNIVERSAL tag: EXTERNAL, and a SEQUENCE or SET inside itself.
@@ -301,7 +304,7 @@ pub struct TagLayer {
     pub class: TagClass,
     /// The number.
     pub number: u64,
-    /// IMPLICIT only of a type that has a tag of its own (X.680, 31.2.9).
+    /// IMPLICIT only of a type that has a tag of its own (X.680, 31.2.9), or of one that no module gives.
     pub mode: TagMode,
 }
 

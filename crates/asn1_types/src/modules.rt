@@ -1,5 +1,5 @@
 //! The types and values of modules.
-ghost use Rattle.std.specs.Prelude.{IfOk};
+ghost use Rattle.std.specs.Prelude.{IfOk, false, true};
 ghost use Rattle.asn1_types.specs.Context.{IsUnchanged, resolved_of};
 ghost use Rattle.asn1_types.specs.Definitions.{AreResolved, Continues};
 
@@ -71,9 +71,9 @@ fn resolve_module<'a>(
     Ok(())
 }
 
-// The types and values of modules, unless memory runs out. `is_incomplete`: a type that no module gives is any element.
+// The types and values of modules, unless memory runs out. `is_incomplete`: a type that no module gives is `Notation::Missing`.
 fn resolved<'a>(alloc: Global, scope: Scope<'a>, is_incomplete: bool) -> Result<Resolved<'a>, Stop>
-    ensures { IfOk result (λ x. AreResolved (resolved_of scope.entry.modules.now scope.entry.known.now x)) }
+    ensures { IfOk result (λ x. AreResolved (resolved_of scope.entry.modules.now scope.entry.known.now is_incomplete x)) }
 {
     let mut r = new_resolver(alloc, scope, is_incomplete)?;
     for (index, module) in scope.modules.iter().enumerate() {
@@ -95,13 +95,13 @@ fn resolved<'a>(alloc: Global, scope: Scope<'a>, is_incomplete: bool) -> Result<
 
 /// The types and values of modules, and why types are rejected.
 ///
-/// A name that is imported from a module that is not among them is that of a known type.
+/// A name that is imported from a module that is not among them is that of a known type. No type is `Notation::Missing`.
 pub fn resolve<'a>(
     alloc: Global,
     modules: &'a [Module<'a>],
     known: &'a [KnownType<'a>],
 ) -> Result<Resolved<'a>, AllocError>
-    ensures { IfOk result (λ x. AreResolved (resolved_of modules.now known.now x)) }
+    ensures { IfOk result (λ x. AreResolved (resolved_of modules.now known.now false x)) }
 {
     match resolved(alloc, Scope { modules, known }, false) {
         Ok(resolved) => Ok(resolved),
@@ -109,15 +109,15 @@ pub fn resolve<'a>(
     }
 }
 
-/// As `resolve`, of modules that aren't all given. Where a type is a name of one word that no module gives, it is any element, and a `Looser` says so.
+/// As `resolve`, of modules that aren't all given. A type whose name is one word, and that no module gives, is `Notation::Missing`. A `Looser` says so.
 ///
-/// Such a name is rejected under an IMPLICIT or automatic tag, after COMPONENTS OF and in a selection.
+/// Such a name is rejected after COMPONENTS OF and in a selection.
 pub fn resolve_incomplete<'a>(
     alloc: Global,
     modules: &'a [Module<'a>],
     known: &'a [KnownType<'a>],
 ) -> Result<Resolved<'a>, AllocError>
-    ensures { IfOk result (λ x. AreResolved (resolved_of modules.now known.now x)) }
+    ensures { IfOk result (λ x. AreResolved (resolved_of modules.now known.now true x)) }
 {
     match resolved(alloc, Scope { modules, known }, true) {
         Ok(resolved) => Ok(resolved),

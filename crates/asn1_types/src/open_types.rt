@@ -1,5 +1,5 @@
 //! Types that a module leaves open: parameters (X.683), fields of classes (X.681), and those that no module gives.
-ghost use Rattle.std.specs.Prelude.{IfOk, IfSome};
+ghost use Rattle.std.specs.Prelude.{◌≡◌, IfOk, IfSome, true};
 ghost use Rattle.asn1_types.specs.Context.{IsUnchanged};
 ghost use Rattle.asn1_types.specs.Notations.{IsOfField, IsOpenType};
 
@@ -7,7 +7,7 @@ use crate::builtins::{Builtin, builtin_of};
 use crate::cores::{TypeAt, assigned_type, place_of};
 use crate::integers::UNBOUNDED;
 use crate::model::{Loosening, Notation};
-use crate::problem::{Problem, ProblemKind, Stop, problem_at};
+use crate::problem::{ProblemKind, Stop};
 use crate::resolver::{Resolver, note};
 use crate::scope::{Meaning, Scope, assignment_at, meaning_of};
 use crate::tokens::{has_text, is};
@@ -72,33 +72,27 @@ fn is_parameter(parameters: &[Token<'_>], name: &[u8]) -> bool {
 }
 
 // Whether a name with this problem is one that no module gives.
-fn is_missing(kind: ProblemKind) -> bool {
+fn is_not_given(kind: ProblemKind) -> bool {
     matches!(
         kind,
         ProblemKind::NotDefined | ProblemKind::ModuleMissing | ProblemKind::NotExported
     )
 }
 
-// Why a name is that of no type, if no module gives one.
-fn missing<'a>(scope: Scope<'a>, module: usize, name: Token<'a>) -> Option<Problem> {
+// Whether no module gives a type for a name.
+fn names_no_type<'a>(scope: Scope<'a>, module: usize, name: Token<'a>) -> bool {
     match meaning_of(scope, module, name) {
-        Ok(Meaning::Known(_)) => None,
-        Ok(Meaning::Assigned(place)) => match assigned_type(scope, place) {
-            Some(_) => None,
-            None => Some(problem_at(module, name, ProblemKind::WrongAssignment)),
-        },
-        Err(problem) if is_missing(problem.kind) => Some(problem),
-        Err(_) => None,
+        Ok(Meaning::Known(_)) => false,
+        Ok(Meaning::Assigned(place)) => assigned_type(scope, place).is_none(),
+        Err(problem) => is_not_given(problem.kind),
     }
 }
 
-// As `missing`, where such a type is any element.
-fn missing_here<'a>(r: &Resolver<'a>, module: usize, name: Token<'a>) -> Option<Problem> {
-    if r.is_incomplete {
-        missing(r.scope, module, name)
-    } else {
-        None
-    }
+// Whether a name is that of a type that no module gives. Where all modules are given, there is none.
+fn is_missing<'a>(r: &Resolver<'a>, module: usize, name: Token<'a>) -> bool
+    ensures { result ≡ true → r.now.is_incomplete ≡ true }
+{
+    r.is_incomplete && names_no_type(r.scope, module, name)
 }
 
 /// The notation of a parameter, of a field of a class, or of a type that no module gives. `None` is another type.
@@ -108,9 +102,8 @@ pub fn open_notation<'a>(
     plain: &'a PlainType<'a>,
 ) -> Result<Option<Notation>, Stop>
     ensures unchanged { IsUnchanged r.old r.new }
-    ensures left_open { IfOk result (λ found. IfSome found (IsOpenType plain.now.words.items)) }
+    ensures left_open { IfOk result (λ found. IfSome found (IsOpenType r.new.is_incomplete plain.now.words.items)) }
 {
-    r.work.missing = None;
     match plain.words.as_slice() {
         [name] if is_parameter(r.work.parameters, name.text) => {
             note(r, place_of(at), Loosening::Parameter)?;
@@ -123,13 +116,9 @@ pub fn open_notation<'a>(
             }
             Ok(Some(notation))
         }
-        [name] => {
-            r.work.missing = missing_here(r, at.module, *name);
-            if r.work.missing.is_none() {
-                return Ok(None);
-            }
+        [name] if is_missing(r, at.module, *name) => {
             note(r, place_of(at), Loosening::Missing)?;
-            Ok(Some(Notation::Any))
+            Ok(Some(Notation::Missing))
         }
         _ => Ok(None),
     }

@@ -22,7 +22,7 @@ use crate::tags_of_types::is_untagged;
 use crate::tokens::is;
 use crate::values::number_of;
 use asn1_syntax::Token;
-use asn1_syntax::tree::{ListSize, TagDefault, TagNotation, TypeNotation};
+use asn1_syntax::tree::{ListSize, TagNotation, TypeNotation};
 use std::alloc::Global;
 
 // The index of the names of numbers or bits in the braces after a type, if it has some.
@@ -79,7 +79,6 @@ pub fn builtin_notation<'a>(
     ensures unchanged { IsUnchanged r.old r.new }
     ensures builtin { IfOk result (λ n. (builtin ≡ Enumerated → ⊥) → IsOfBuiltin n builtin) }
 {
-    r.work.missing = None;
     if let Some(what) = loosening(builtin) {
         note(r, at(place.module, word), what)?;
     }
@@ -173,25 +172,6 @@ pub fn layer<'a>(
     ))
 }
 
-// Whether a tag that is written is IMPLICIT before a type that has a tag.
-fn is_implicit(r: &Resolver<'_>, module: usize, tag: &TagNotation<'_>) -> bool {
-    match written_mode(tag) {
-        Some(mode) => mode == TagMode::Implicit,
-        None => matches!(
-            environment(r, module),
-            TagDefault::Implicit | TagDefault::Automatic
-        ),
-    }
-}
-
-// Rejects a type that no module gives under an IMPLICIT tag: without its own tag its contents are unknown, so that no notation takes them all.
-fn check_missing(r: &Resolver<'_>, inner: &Notation) -> Result<(), Problem> {
-    match (inner, r.work.missing) {
-        (Notation::Any, Some(problem)) => Err(problem),
-        _ => Ok(()),
-    }
-}
-
 /// A notation under a tag.
 pub fn tagged<'a>(
     r: &Resolver<'a>,
@@ -201,9 +181,6 @@ pub fn tagged<'a>(
 ) -> Result<Notation, Stop>
     ensures { IfOk result (IsTaggedBy (tag_site r.now.scope.modules.now r.now.scope.known.now «module») r.now.tag_sets.items tag.now inner) }
 {
-    if is_implicit(r, module, tag) {
-        check_missing(r, &inner)?;
-    }
     let layer = layer(r, module, tag, is_untagged(r, &inner)?)?;
     let content = Box::new(r.alloc, inner)?;
     Ok(Notation::Tagged(layer, content))
@@ -217,7 +194,6 @@ pub fn automatically_tagged(
 ) -> Result<Notation, Stop>
     ensures { IfOk result (IsTaggedAutomaticallyBy r.now.scope.known.now r.now.tag_sets.items number inner) }
 {
-    check_missing(r, &inner)?;
     let layer = automatic_layer(number as u64, is_untagged(r, &inner)?);
     let content = Box::new(r.alloc, inner)?;
     Ok(Notation::Tagged(layer, content))

@@ -4,7 +4,7 @@ ghost use Rattle.asn1_types.specs.Context.{IsAdded, IsUnchanged, context_of};
 ghost use Rattle.asn1_types.specs.Tags.{environment_of};
 
 use crate::model::{Body, Definition, Loosening, Looser, NamedNumbers, Place, TagLayer};
-use crate::problem::{Problem, Rejection, Stop};
+use crate::problem::{Rejection, Stop};
 use crate::scope::{AssignmentPlace, Scope, exports_name};
 use crate::tags_of_types::{TagSet, set_of_body};
 use asn1_syntax::Token;
@@ -33,7 +33,7 @@ pub struct Resolver<'a> {
     pub alloc: Global,
     /// The modules.
     pub scope: Scope<'a>,
-    /// Whether a type that no module gives is any element. Else it is rejected.
+    /// Whether a type that no module gives is `Notation::Missing`. Else it is rejected.
     pub is_incomplete: bool,
     /// How far each assignment of each module is resolved.
     pub states: Vec<Vec<State>>,
@@ -62,8 +62,6 @@ pub struct Work<'a> {
     pub path: Vec<&'a [u8]>,
     /// Where its notation accepts more than the module says.
     pub looser: Vec<Looser>,
-    /// Why the last type that was named is missing, if no module gives it and it is any element.
-    pub missing: Option<Problem>,
 }
 
 // A state for each assignment of a module.
@@ -71,13 +69,14 @@ fn unresolved(alloc: Global, module: &Module<'_>) -> Result<Vec<State>, AllocErr
     vec![in alloc; State::Unresolved; module.assignments.len()]
 }
 
-/// What is known before any type is resolved. `is_incomplete`: a type that no module gives is any element.
+/// What is known before any type is resolved. `is_incomplete`: a type that no module gives is `Notation::Missing`.
 pub fn new_resolver<'a>(
     alloc: Global,
     scope: Scope<'a>,
     is_incomplete: bool,
 ) -> Result<Resolver<'a>, Stop>
     ensures scope { IfOk result (λ r. r.scope ≡ scope.entry) }
+    ensures incomplete { IfOk result (λ r. r.is_incomplete ≡ is_incomplete) }
     ensures definitions { IfOk result (λ r. r.definitions.items ≡ []) }
     ensures sets { IfOk result (λ r. r.tag_sets.items ≡ []) }
 {
@@ -101,7 +100,6 @@ pub fn new_resolver<'a>(
             parameters: &[],
             path: Vec::new(alloc),
             looser: Vec::new(alloc),
-            missing: None,
         },
     })
 }
@@ -170,7 +168,6 @@ pub fn begin<'a>(
         parameters,
         path,
         looser: Vec::new(r.alloc),
-        missing: None,
     };
     Ok(std::mem::replace(&mut r.work, work))
 }

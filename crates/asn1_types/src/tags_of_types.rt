@@ -64,7 +64,9 @@ fn own_tag(notation: &Notation) -> Option<Tag> {
         Notation::SequenceOf(_, _) => 16,
         Notation::SetOf(_, _) => 17,
         Notation::Tagged(layer, _) => return Some(tag_of(*layer)),
-        Notation::Any | Notation::Defined(_) | Notation::Imported(_) => return None,
+        Notation::Any | Notation::Missing | Notation::Defined(_) | Notation::Imported(_) => {
+            return None;
+        }
     };
     Some(universal(number))
 }

@@ -108,6 +108,7 @@ fn word_of(notation: &Notation) -> &'static str {
         Notation::UtcTime => "UTC",
         Notation::GeneralizedTime => "GENERALIZED",
         Notation::Any => "ANY",
+        Notation::Missing => "MISSING",
         Notation::OctetsUnder(_) => "OCTETS UNDER ",
         Notation::ElementsUnder(_) => "ELEMENTS UNDER ",
         Notation::Defined(_) => "#",

@@ -7,7 +7,7 @@ use asn1_source::{
 use asn1_syntax::parse;
 use asn1_syntax::tree::Module;
 use asn1_types::model::Resolved;
-use asn1_types::resolve;
+use asn1_types::resolve_incomplete;
 use std::alloc::{AllocError, Global};
 use std::process::Abort;
 
@@ -358,6 +358,35 @@ static LISTED: [Row; 8] = [
     ),
 ];
 
+// Types that no module gives: any element, and under an IMPLICIT or automatic tag any element with that tag.
+static MISSING: [Row; 5] = [
+    (
+        b"M DEFINITIONS IMPLICIT TAGS ::= BEGIN Rec ::= SEQUENCE { a [0] Other, b [1] EXPLICIT Third, d Third, c [2] Foo OPTIONAL } Foo ::= [3] Other END",
+        "src/rec.rt",
+        "type Parts = (AnyUnder<Context<0>>, (Explicit<Context<1>, TaggedDerValue>, (TaggedDerValue, (Optional<AnyUnder<Context<2>>>, ()))));\n",
+    ),
+    (
+        b"M DEFINITIONS IMPLICIT TAGS ::= BEGIN Pick ::= CHOICE { x [APPLICATION 5] Other, none NULL } END",
+        "src/pick.rt",
+        "      | X x ↦ (any_non_empty u) m x\n",
+    ),
+    (
+        b"M DEFINITIONS IMPLICIT TAGS ::= BEGIN Bag ::= SET { z [PRIVATE 7] Third OPTIONAL, x [0] Other } END",
+        "src/bag.rt",
+        "type Parts = (AnyUnder<Context<0>>, (Optional<AnyUnder<Private<7>>>, ()));\n",
+    ),
+    (
+        b"M DEFINITIONS AUTOMATIC TAGS ::= BEGIN Rec ::= SEQUENCE { a Other, b BOOLEAN } END",
+        "src/rec.rt",
+        "type Parts = (AnyUnder<Context<0>>, (Implicit<Context<1>, bool>, ()));\n",
+    ),
+    (
+        b"M DEFINITIONS AUTOMATIC TAGS ::= BEGIN Rec ::= SEQUENCE { a Other, b BOOLEAN } END",
+        "list",
+        "Rec: accepts more\n    `a`: a type that no module gives is any element\n",
+    ),
+];
+
 const LEVEL: &[u8] =
     b"M DEFINITIONS ::= BEGIN Level ::= [APPLICATION 40] SEQUENCE { number INTEGER (5..9), name [1] IMPLICIT UTF8String OPTIONAL } END";
 
@@ -471,7 +500,7 @@ pub(crate) fn is_written<'a>(
     let Ok(known) = known_types(alloc, exports) else {
         return false;
     };
-    match resolve(alloc, modules, known.leak()) {
+    match resolve_incomplete(alloc, modules, known.leak()) {
         Ok(resolved) => {
             has_lines(alloc, source, modules, exports, &resolved, file, lines).unwrap_or(false)
         }
@@ -515,6 +544,7 @@ fn names_are_written(rt: HostRuntime) {
 #[test]
 fn sequences_are_written(rt: HostRuntime) {
     assert!(rt; first_missing(rt.alloc(), &SEQUENCES, &[]).is_none());
+    assert!(rt; first_missing(rt.alloc(), &MISSING, &[]).is_none());
 }
 
 #[test]

@@ -130,20 +130,24 @@ static REJECTED: [Row; 2] = [
     ),
 ];
 
-// Types that no module gives, as any element, and where they are rejected: under an IMPLICIT tag, an automatic one, after COMPONENTS OF, in a selection,
-// and after the name of a module.
-static INCOMPLETE: [Row; 3] = [
+// Types that no module gives, and where they are rejected: after COMPONENTS OF, in a selection, and after the name of a module. A tag before one is
+// IMPLICIT where it is before a type with a tag.
+static INCOMPLETE: [Row; 4] = [
     (
         NAMING,
-        "A. SEQUENCE a ANY, b ANY, c [0 E] ANY, d ANY, !missing !missing !missing !missing\nE. = ANY !missing\nF. SEQUENCE f ANY OPTIONAL, !missing\nC. private = NULL\n",
+        "A. SEQUENCE a MISSING, b MISSING, c [0 E] MISSING, d MISSING, !missing !missing !missing !missing\nE. = MISSING !missing\nF. SEQUENCE f MISSING OPTIONAL, !missing\nC. private = NULL\n",
     ),
     (
         b"M DEFINITIONS IMPLICIT TAGS ::= BEGIN A ::= SEQUENCE { a [0] Foo } B ::= [1] EXPLICIT Foo C ::= SEQUENCE { c [2] B, d [3] SEQUENCE OF Foo } D ::= CHOICE { e [4] E } E ::= Foo F ::= SEQUENCE { f Foo, g [5] ANY } END N DEFINITIONS AUTOMATIC TAGS ::= BEGIN A ::= SEQUENCE { a Foo } B ::= SEQUENCE { b [0] EXPLICIT Foo } END",
-        "B. = [1 E] ANY !missing\nC. SEQUENCE c [2 I] [1 E] ANY, d [3 I] SEQUENCE OF ANY, !missing !missing\nE. = ANY !missing\nF. SEQUENCE f ANY, g [5 E] ANY, !missing\nB. SEQUENCE b [0 E] ANY, !missing\n0:61: this name is neither assigned nor imported\n0:171: this name is neither assigned nor imported\n1:273: this name is neither assigned nor imported\n",
+        "A. SEQUENCE a [0 I] MISSING, !missing\nB. = [1 E] MISSING !missing\nC. SEQUENCE c [2 I] [1 E] MISSING, d [3 I] SEQUENCE OF MISSING, !missing !missing\nE. = MISSING !missing\nD. CHOICE e [4 I] MISSING, !missing\nF. SEQUENCE f MISSING, g [5 E] ANY, !missing\nA. SEQUENCE a [0 I] MISSING, !missing\nB. SEQUENCE b [0 E] MISSING, !missing\n",
     ),
     (
         b"M DEFINITIONS ::= BEGIN A {X} ::= SEQUENCE { a X } B ::= A {NULL} C ::= Foo {NULL} D ::= SEQUENCE { COMPONENTS OF Foo } E ::= e < Foo F ::= SEQUENCE { f N.Foo } END",
-        "A. SEQUENCE a ANY, !parameter\nB. = #0\nC. = ANY !missing\n0:114: this name is neither assigned nor imported\n0:130: this name is neither assigned nor imported\n0:155: this name is of a module that is not given\n",
+        "A. SEQUENCE a ANY, !parameter\nB. = #0\nC. = MISSING !missing\n0:114: this name is neither assigned nor imported\n0:130: this name is neither assigned nor imported\n0:155: this name is of a module that is not given\n",
+    ),
+    (
+        b"M DEFINITIONS ::= BEGIN A ::= SEQUENCE { a [0] IMPLICIT B, b [1] B OPTIONAL } B ::= Foo C ::= [2] IMPLICIT Foo D ::= C (SIZE (1)) E ::= SET { c C, d [3] EXPLICIT Foo } F ::= SEQUENCE { e B OPTIONAL, f NULL } END N DEFINITIONS AUTOMATIC TAGS ::= BEGIN A ::= SEQUENCE { a NULL, b Foo OPTIONAL, c INTEGER } B ::= CHOICE { d NULL, e Foo } END",
+        "B. = MISSING !missing\nA. SEQUENCE a [0 I] MISSING, b [1 E] MISSING OPTIONAL, !missing !missing\nC. = [2 I] MISSING !missing\nD. = [2 I] MISSING !missing !constraint\nE. SET c [2 I] MISSING, d [3 E] MISSING, !missing !missing\nA. SEQUENCE a [0 I] NULL, b [1 I] MISSING OPTIONAL, c [2 I] INTEGER, !missing\nB. CHOICE d [0 I] NULL, e [1 I] MISSING, !missing\n0:199: no tag distinguishes this part from another one at 185\n",
     ),
 ];
 

@@ -8,4 +8,5 @@ loop-index-init c = record {
   resolved = resolved_at_first c.in_ok-r.r c.in_ok-r.ensures.definitions c.in_ok-r.ensures.sets;
   modules = ap (λ (s : Scope). s.modules.now) c.in_ok-r.ensures.scope;
   known = ap (λ (s : Scope). s.known.now) c.in_ok-r.ensures.scope;
+  incomplete = c.in_ok-r.ensures.incomplete;
 }

@@ -8,4 +8,5 @@ invariant-loop-index l = record {
   resolved : AreResolved (context_of l.r);
   modules : l.r.scope.modules.now ≡ l.scope.modules.now;
   known : l.r.scope.known.now ≡ l.scope.known.now;
+  incomplete : l.r.is_incomplete ≡ l.is_incomplete;
 }

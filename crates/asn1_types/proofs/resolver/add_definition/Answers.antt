@@ -18,6 +18,7 @@ returns-clause-added c =
       set = c.in_ok-set.set;
       modules = refl;
       known = refl;
+      is_incomplete = refl;
       definitions = c.in_ok-push-2.ensures.items ∙ ap (λ (l : List Definition). l ++ added ∷ []) c.reserve.ensures.items;
       sets = c.in_ok-push.ensures.items;
       at = search rules;
