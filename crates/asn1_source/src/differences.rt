@@ -24,6 +24,8 @@ fn looser_text(what: Loosening) -> &'static str {
         Loosening::OpenType => "an open type is any element",
         Loosening::Parameter => "a parameter isn't applied",
         Loosening::Missing => "a type that no module gives is any element",
+        Loosening::Additions =>
+            "a mandatory addition may be absent though a later one, or another one of its group, is there",
         Loosening::Default => "a part with a default may be encoded though it is the default",
         Loosening::Recursion => "a type inside itself is read as it came",
         Loosening::Characters => "the characters of a string aren't read",

@@ -11,6 +11,7 @@ ghost use Rattle.asn1_types.specs.Tagged.{IsTaggedIf};
 ghost use Rattle.asn1_types.specs.Tags.{tag_site, environment_of};
 ghost use Rattle.asn1_types.specs.Trees.{both, has_tag_before};
 
+use crate::additions::untied_addition;
 use crate::components::{Section, WrittenPart, WrittenParts};
 use crate::constraints::loosening_of;
 use crate::cores::{TypeAt, is_tagged};
@@ -26,7 +27,7 @@ use crate::tags::{automatic_number, is_tagged_automatically};
 use crate::tags_of_types::{Distinction, check_tags};
 use crate::tokens::is;
 use asn1_syntax::Token;
-use asn1_syntax::tree::{Presence as WrittenPresence, TypeNotation};
+use asn1_syntax::tree::{Component, Presence as WrittenPresence, TypeNotation};
 use std::alloc::{AllocError, Global};
 
 // Whether the tag before a type is before an untagged CHOICE, of whether the type without its tags is a CHOICE.
@@ -283,6 +284,21 @@ fn alternatives_of<'a>(
         alternatives,
         is_extensible: extension.is_some(),
     })
+}
+
+/// Notes that an addition of a SEQUENCE or a SET may be absent where its version has it.
+pub fn note_additions<'a>(
+    r: &mut Resolver<'a>,
+    module: usize,
+    word: Token<'a>,
+    components: &'a [Component<'a, TypeNotation<'a>>],
+) -> Result<(), Stop>
+    ensures { IsUnchanged r.old r.new }
+{
+    match untied_addition(components) {
+        Some(name) if !is(word, b"CHOICE") => note(r, at(module, name), Loosening::Additions),
+        _ => Ok(()),
+    }
 }
 
 /// The body of this word and these parts. Their names and tags have to be distinct.

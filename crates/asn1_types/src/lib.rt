@@ -44,6 +44,7 @@
 //! | `builtins` | the types that have words of their own |
 //! | `cores` | the type that a name means |
 //! | `components` | parts, with those of COMPONENTS OF |
+//! | `additions` | additions that may be absent where their version has them |
 //! | `tags` | the tags of X.680 |
 //! | `tags_of_types` | the tags that encodings begin with, and parts that no tag distinguishes |
 //! | `defaults` | the values after DEFAULT |
@@ -57,6 +58,7 @@
 //! | `modules` | all types and values of modules |
 #![tactic(auto)]
 
+mod additions;
 mod bodies;
 mod builtins;
 mod components;

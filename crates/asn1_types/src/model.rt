@@ -373,6 +373,8 @@ pub enum Loosening {
     Parameter,
     /// A type that no module gives, which is any element.
     Missing,
+    /// An addition that may be absent though a later one is there, or another one of its `[[ ]]`. In its version it is always there.
+    Additions,
     /// A DEFAULT without a `DefaultValue`: that it is omitted is not tested.
     Default,
     /// A type inside itself, whose elements are kept as they came.

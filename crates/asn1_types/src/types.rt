@@ -9,7 +9,9 @@ ghost use Rattle.asn1_types.specs.Names.{IsAssigned, Refers};
 ghost use Rattle.asn1_types.specs.Notations.{IsBody, IsDefinedAt, IsEnumeratedAt, IsNotation, IsOwn, IsPlain, number_of_part};
 ghost use Rattle.asn1_types.specs.PartsOf.{ArePartsOf, IsPartOf};
 
-use crate::bodies::{body_of, extension_of, finished, layers, note_constraints, numbers_of};
+use crate::bodies::{
+    body_of, extension_of, finished, layers, note_additions, note_constraints, numbers_of,
+};
 use crate::builtins::{Builtin, builtin_of};
 use crate::components::{WrittenPart, WrittenParts, written_parts};
 use crate::cores::{
@@ -518,6 +520,7 @@ fn body<'a>(
     ensures continues { Continues r.old r.new }
     ensures body { IfOk result (IsBody (context_of r.new) «module» word.entry components.now) }
 {
+    note_additions(r, module, word, components)?;
     let written = written_parts(r.alloc, r.scope, module, components, MAX_DEPTH)?;
     let parts = parts(r, module, &written, depth)?;
     let extension = extension_of(r, module, &written);

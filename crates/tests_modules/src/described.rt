@@ -264,6 +264,7 @@ fn loosening_word(what: Loosening) -> &'static str {
         Loosening::OpenType => " !open",
         Loosening::Parameter => " !parameter",
         Loosening::Missing => " !missing",
+        Loosening::Additions => " !additions",
         Loosening::Default => " !default",
         Loosening::Recursion => " !recursion",
         Loosening::Characters => " !characters",

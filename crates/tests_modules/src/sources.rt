@@ -315,7 +315,7 @@ const HEADS: &[u8] =
     b"M DEFINITIONS ::= BEGIN Head ::= SEQUENCE { id NULL, ..., ..., name UTF8String } Tail ::= SEQUENCE { id NULL, ... } END";
 
 // The lines of types that accept more than the module says, and of those that reject what a later version adds.
-static LISTED: [Row; 8] = [
+static LISTED: [Row; 13] = [
     (
         b"M DEFINITIONS ::= BEGIN Name ::= CHOICE { text BMPString (SIZE (1..8)), id NULL, other [0] BMPString (SIZE (9)) } END",
         "list",
@@ -355,6 +355,31 @@ static LISTED: [Row; 8] = [
         b"M DEFINITIONS ::= BEGIN Name ::= SEQUENCE { text Text, id NULL } Text ::= BMPString (SIZE (1..8)) END",
         "list",
         "Name: accepts more, canonical\n    a constraint isn't tested\n",
+    ),
+    (
+        b"M DEFINITIONS ::= BEGIN Late ::= SEQUENCE { id NULL, ..., name UTF8String, count INTEGER OPTIONAL } END",
+        "list",
+        "Late: accepts more\n    `name`: a mandatory addition may be absent though a later one, or another one of its group, is there\n",
+    ),
+    (
+        b"M DEFINITIONS ::= BEGIN Group ::= SEQUENCE { id NULL, ..., [[ name UTF8String OPTIONAL, count INTEGER ]] } END",
+        "list",
+        "Group: accepts more\n    `count`: a mandatory addition",
+    ),
+    (
+        b"M DEFINITIONS ::= BEGIN Last ::= SEQUENCE { id NULL, ..., [[ name UTF8String OPTIONAL ]], [[ count INTEGER ]] } END",
+        "list",
+        "Last: exact\n",
+    ),
+    (
+        b"M DEFINITIONS ::= BEGIN Root ::= SEQUENCE { id NULL, ..., name UTF8String, ..., flag BOOLEAN, count INTEGER } END",
+        "list",
+        "Root: rejects additions, canonical\n",
+    ),
+    (
+        b"M DEFINITIONS ::= BEGIN Shape ::= CHOICE { number INTEGER, ..., flag BOOLEAN, name UTF8String } END",
+        "list",
+        "Shape: exact\n",
     ),
 ];
 

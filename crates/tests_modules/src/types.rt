@@ -43,7 +43,7 @@ static AUTOMATIC_TAGS: [Row; 3] = [
     ),
     (
         b"M DEFINITIONS AUTOMATIC TAGS ::= BEGIN A ::= SEQUENCE { a NULL, ..., b NULL, [[ c NULL ]], ..., COMPONENTS OF D } D ::= SEQUENCE { e [9] NULL, ..., f NULL } END",
-        "A. SEQUENCE a [0 I] NULL, +b [2 I] NULL, +c [3 I] NULL, e [1 I] [9 I] NULL, ...3\nD. SEQUENCE e [9 I] NULL, +f NULL, ...2\n",
+        "A. SEQUENCE a [0 I] NULL, +b [2 I] NULL, +c [3 I] NULL, e [1 I] [9 I] NULL, ...3 !additions\nD. SEQUENCE e [9 I] NULL, +f NULL, ...2\n",
     ),
 ];
 
