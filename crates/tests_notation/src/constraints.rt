@@ -1,11 +1,12 @@
 //! What the examples of `yasna_notation_constraints` read and write. The rows are written by hand from X.690.
 
-use crate::checks::{Claim, Kind, Row, finds_none, first_failing, holds, holds_in_ber};
+use crate::checks::{
+    Claim, Kind, Row, finds_none, first_failing, holds_of_assigned, holds_of_assigned_canonical,
+};
 use crate::examples::frame::Frame;
 use crate::examples::settings::Settings;
 use crate::examples::station::Station;
 use std::alloc::Global;
-use yasna_notation::Encoded;
 
 /// The type of a row.
 #[derive(Clone, Copy)]
@@ -15,22 +16,12 @@ enum Example {
     Station,
 }
 
-// What the checker finds of the type's notation takes a function of its own.
-fn holds_of_settings(alloc: Global, bytes: &[u8], claim: Claim) -> bool {
-    holds_in_ber::<Encoded<Settings>>(alloc, bytes, claim)
-}
-
-// As `holds_of_settings`.
-fn holds_of_station(alloc: Global, bytes: &[u8], claim: Claim) -> bool {
-    holds_in_ber::<Encoded<Station>>(alloc, bytes, claim)
-}
-
 impl Kind for Example {
     fn is_so(self, alloc: Global, bytes: &[u8], claim: Claim) -> bool {
         match self {
-            Example::Frame => holds::<Encoded<Frame>>(alloc, bytes, claim),
-            Example::Settings => holds_of_settings(alloc, bytes, claim),
-            Example::Station => holds_of_station(alloc, bytes, claim),
+            Example::Frame => holds_of_assigned::<Frame>(alloc, bytes, claim),
+            Example::Settings => holds_of_assigned_canonical::<Settings>(alloc, bytes, claim),
+            Example::Station => holds_of_assigned_canonical::<Station>(alloc, bytes, claim),
         }
     }
 }

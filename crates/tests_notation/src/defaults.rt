@@ -3,13 +3,12 @@
 //! Rows of openssl are parameters of signatures that `openssl req -x509 -sigopt rsa_padding_mode:pss` made. The others are written by hand from
 //! X.690.
 
-use crate::checks::{Claim, Kind, Row, bytes_of, finds_none, first_failing, holds, holds_in_ber};
+use crate::checks::{
+    Claim, Kind, Row, finds_none, first_failing, holds_if_valid, holds_of_checked, holds_of_defined,
+};
 use crate::examples::label::Label;
 use crate::examples::pss_params::PssParams;
 use std::alloc::Global;
-use yasna::{ASN1Result, decode_ber, decode_der, encode_der};
-use yasna_notation::Encoded;
-use yasna_notation_constraints::IsValid;
 
 /// The type of a row.
 #[derive(Clone, Copy)]
@@ -18,45 +17,14 @@ enum Example {
     PssParams,
 }
 
-// What BER reads and can be written, written in DER.
-fn params_in_der(alloc: Global, bytes: &[u8]) -> ASN1Result<Option<Vec<u8>>> {
-    let params: Encoded<PssParams> = decode_ber(alloc, bytes)?;
-    if !params.value.is_valid() {
-        return Ok(None);
-    }
-    let encoding = encode_der(alloc, &params)?;
-    Ok(Some(encoding))
-}
-
-// Whether DER rejects these octets, and what BER reads of them has this DER encoding.
-fn become_params(alloc: Global, bytes: &[u8], encoding: &str) -> bool {
-    if decode_der::<Encoded<PssParams>>(alloc, bytes).is_ok() {
-        return false;
-    }
-    match (params_in_der(alloc, bytes), bytes_of(alloc, encoding)) {
-        (Ok(Some(found)), Some(encoding)) => found.as_slice() == encoding.as_slice(),
-        _ => false,
-    }
-}
-
-// What the checker finds of the type's notation takes a function of its own.
-fn holds_of_params(alloc: Global, bytes: &[u8], claim: Claim) -> bool {
-    match claim {
-        Claim::Becomes(encoding) => become_params(alloc, bytes, encoding),
-        _ => holds::<Encoded<PssParams>>(alloc, bytes, claim),
-    }
-}
-
-// As `holds_of_params`.
-fn holds_of_label(alloc: Global, bytes: &[u8], claim: Claim) -> bool {
-    holds_in_ber::<Encoded<Label>>(alloc, bytes, claim)
-}
-
 impl Kind for Example {
     fn is_so(self, alloc: Global, bytes: &[u8], claim: Claim) -> bool {
         match self {
-            Example::Label => holds_of_label(alloc, bytes, claim),
-            Example::PssParams => holds_of_params(alloc, bytes, claim),
+            Example::Label => {
+                holds_of_defined::<Label>(alloc, bytes, claim)
+                    && holds_if_valid::<Label>(alloc, bytes, claim)
+            }
+            Example::PssParams => holds_of_checked::<PssParams>(alloc, bytes, claim),
         }
     }
 }

@@ -10,13 +10,16 @@
 //! | `profile` | `Others`, `Possible`, `PossibleDefault` |
 //! | `person`, `entry` | `Set` |
 //! | `principal_name` | `GeneralString` |
-//! | `badge` | strings that are octets, `Private`, fields under an IMPLICIT tag |
+//! | `badge` | strings that are octets, `Private` |
 //! | `ticket` | fields under an EXPLICIT tag |
 //! | `station` | sizes and characters of strings, a range of numbers |
 //! | `frame` | sizes of octets, bits and sets; `AnyUnder` |
 //! | `settings` | defaults of numbers |
 //! | `label` | defaults of strings and an object identifier |
 //! | `pss_params` | defaults of structs |
+//!
+//! `header`, `label`, `person`, `principal_name`, `profile`, `reply`, `shape` and `ticket` show a struct or an enum with its functions. The others are their
+//! notation alone, whose values `crate::values` holds.
 
 pub mod badge;
 pub mod entry;

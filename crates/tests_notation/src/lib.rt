@@ -9,6 +9,7 @@
 //! | `examples` | no test: it holds types of small modules |
 //! | `numbers` | integers of any size in their ranges |
 //! | `validity` | values within each bound, and beyond it |
+//! | `values` | no test: it holds a value of an example without a struct |
 #![tactic(auto)]
 
 #[cfg(test)]
@@ -27,3 +28,5 @@ mod tags;
 mod types;
 #[cfg(test)]
 mod validity;
+#[cfg(test)]
+mod values;

@@ -1,12 +1,14 @@
 //! What the examples of `yasna_notation_types` read and write. The ticket, the name, and the two badges are those of `openssl asn1parse -genconf`; the
 //! rows that are rejected are these with some octets changed, and the holder in segments is written by hand.
 
-use crate::checks::{Claim, Kind, Row, finds_none, first_failing, holds, holds_in_both};
+use crate::checks::{
+    Claim, Kind, Row, finds_none, first_failing, holds_of_assigned_canonical, holds_of_canonical,
+    holds_of_defined,
+};
 use crate::examples::badge::Badge;
 use crate::examples::principal_name::PrincipalName;
 use crate::examples::ticket::Ticket;
 use std::alloc::Global;
-use yasna_notation::Encoded;
 
 /// The type of a row.
 #[derive(Clone, Copy)]
@@ -19,9 +21,9 @@ enum Example {
 impl Kind for Example {
     fn is_so(self, alloc: Global, bytes: &[u8], claim: Claim) -> bool {
         match self {
-            Example::Badge => holds_in_both::<Encoded<Badge>>(alloc, bytes, claim),
-            Example::PrincipalName => holds_in_both::<Encoded<PrincipalName>>(alloc, bytes, claim),
-            Example::Ticket => holds_in_both::<Encoded<Ticket>>(alloc, bytes, claim),
+            Example::Badge => holds_of_assigned_canonical::<Badge>(alloc, bytes, claim),
+            Example::PrincipalName => holds_of_defined::<PrincipalName>(alloc, bytes, claim),
+            Example::Ticket => holds_of_canonical::<Ticket>(alloc, bytes, claim),
         }
     }
 }

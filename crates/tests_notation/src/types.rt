@@ -1,7 +1,10 @@
 //! What the examples of `yasna_notation_types` read and write. Some rows have the octets of `openssl asn1parse -genconf`, or of `pyasn1` where a SET
 //! is in another order, and one those of X.690, 8.6.4.2. The others are written by hand.
 
-use crate::checks::{Claim, Kind, Row, finds_none, first_failing, holds, holds_in_both};
+use crate::checks::{
+    Claim, Kind, Row, finds_none, first_failing, holds_of, holds_of_assigned_canonical,
+    holds_of_canonical, holds_of_defined,
+};
 use crate::examples::entry::Entry;
 use crate::examples::header::Header;
 use crate::examples::key_info::KeyInfo;
@@ -11,7 +14,6 @@ use crate::examples::reply::Reply;
 use crate::examples::shape::Shape;
 use crate::examples::usage::Usage;
 use std::alloc::Global;
-use yasna_notation::Encoded;
 
 /// The type of a row.
 #[derive(Clone, Copy)]
@@ -29,14 +31,14 @@ enum Example {
 impl Kind for Example {
     fn is_so(self, alloc: Global, bytes: &[u8], claim: Claim) -> bool {
         match self {
-            Example::Entry => holds_in_both::<Encoded<Entry>>(alloc, bytes, claim),
-            Example::Header => holds::<Encoded<Header>>(alloc, bytes, claim),
-            Example::KeyInfo => holds_in_both::<Encoded<KeyInfo>>(alloc, bytes, claim),
-            Example::Person => holds_in_both::<Encoded<Person>>(alloc, bytes, claim),
-            Example::Profile => holds::<Encoded<Profile>>(alloc, bytes, claim),
-            Example::Reply => holds_in_both::<Encoded<Reply>>(alloc, bytes, claim),
-            Example::Shape => holds::<Encoded<Shape>>(alloc, bytes, claim),
-            Example::Usage => holds_in_both::<Encoded<Usage>>(alloc, bytes, claim),
+            Example::Entry => holds_of_assigned_canonical::<Entry>(alloc, bytes, claim),
+            Example::Header => holds_of::<Header>(alloc, bytes, claim),
+            Example::KeyInfo => holds_of_assigned_canonical::<KeyInfo>(alloc, bytes, claim),
+            Example::Person => holds_of_canonical::<Person>(alloc, bytes, claim),
+            Example::Profile => holds_of::<Profile>(alloc, bytes, claim),
+            Example::Reply => holds_of_defined::<Reply>(alloc, bytes, claim),
+            Example::Shape => holds_of::<Shape>(alloc, bytes, claim),
+            Example::Usage => holds_of_assigned_canonical::<Usage>(alloc, bytes, claim),
         }
     }
 }

@@ -10,102 +10,31 @@
 //! ```
 ghost use Rattle.std.specs.Prelude.{◌≡◌, refl};
 
-use yasna_base::models::TaggedDerValue;
-use yasna_base::{ASN1Result, BERMode, Tag};
-use yasna_notation::{BitString, Bounded, Context, DefinedType, Optional, Sequence, SetOf};
+use crate::values::Assigned;
+use yasna_notation::{BitString, Bounded, Context, Optional, Sequence, SetOf};
 use yasna_notation_constraints::{SizeFrom, SizeFromTo};
 use yasna_notation_types::AnyUnder;
-use yasna_writer::{DERWriter, PrependBuffer};
 
+// The bytes of 4 to 16 bits, and how many bits there are.
+type Flags = Bounded<BitString, SizeFromTo<4, 16>>;
+
+// One or two keys, each of 2 to 4 octets.
 type Keys = Bounded<SetOf<Bounded<Vec<u8>, SizeFromTo<2, 4>>>, SizeFromTo<1, 2>>;
 
+// Three octets or more.
+type Payload = Bounded<Vec<u8>, SizeFrom<3>>;
+
+// Up to three characters.
 type Note = Bounded<String, SizeFromTo<0, 3>>;
 
+// The trailer is an element under [0], as it came.
 type Ends = (Optional<Note>, (Optional<AnyUnder<Context<0>>>, ()));
 
-type Parts = (
-    Bounded<BitString, SizeFromTo<4, 16>>,
-    (Keys, (Bounded<Vec<u8>, SizeFrom<3>>, Ends)),
-);
-
-type Fields = (
-    (Vec<u8>, usize),
-    (
-        Vec<Vec<u8>>,
-        (Vec<u8>, (Option<String>, (Option<TaggedDerValue>, ()))),
-    ),
-);
-
 /// A frame.
-#[derive(Drop)]
-pub struct Frame {
-    /// The bytes of 4 to 16 bits, and how many bits there are.
-    pub flags: (Vec<u8>, usize),
-    /// One or two keys, each of 2 to 4 octets.
-    pub keys: Vec<Vec<u8>>,
-    /// Three octets or more.
-    pub payload: Vec<u8>,
-    /// Up to three characters.
-    pub note: Option<String>,
-    /// An element under [0], as it came.
-    pub trailer: Option<TaggedDerValue>,
-}
+pub struct Frame;
 
-impl DefinedType for Frame {
-    type Notation = Sequence<Parts>;
-
-    ghost value_of = { λ v. (v.flags, (v.keys, (v.payload, (v.note, (v.trailer, tt))))) };
-
-    fn from_value((flags, (keys, (payload, (note, (trailer, ()))))): Fields) -> Frame {
-        Frame {
-            flags,
-            keys,
-            payload,
-            note,
-            trailer,
-        }
-    }
-
-    fn write_value(&self, writer: DERWriter<'_>) -> ASN1Result<()> {
-        Sequence::<Parts>::write_fields(
-            (
-                &self.flags,
-                (
-                    &self.keys,
-                    (&self.payload, (&self.note, (&self.trailer, ()))),
-                ),
-            ),
-            writer,
-        )
-    }
-
-    fn prepend_value(&self, under: Option<Tag>, out: &mut PrependBuffer) -> ASN1Result<()> {
-        Sequence::<Parts>::prepend_fields(
-            (
-                &self.flags,
-                (
-                    &self.keys,
-                    (&self.payload, (&self.note, (&self.trailer, ()))),
-                ),
-            ),
-            under,
-            out,
-        )
-    }
-
-    fn value_len(&self, under: Option<Tag>, mode: BERMode) -> Option<usize> {
-        Sequence::<Parts>::fields_len(
-            (
-                &self.flags,
-                (
-                    &self.keys,
-                    (&self.payload, (&self.note, (&self.trailer, ()))),
-                ),
-            ),
-            under,
-            mode,
-        )
-    }
+impl Assigned for Frame {
+    type Notation = Sequence<(Flags, (Keys, (Payload, Ends)))>;
 
     ghost unambiguous = { refl };
 }

@@ -18,6 +18,7 @@ ghost use Rattle.yasna_base.specs.Sequence.{sequence_tag};
 ghost use Rattle.yasna_base.specs.TaggedDerValue.{raw_of, raw_value};
 ghost use Rattle.yasna_notation_constraints.specs.TestedDefaults.{is_element, some_passes, one_list, one_seen, one_element, one_some, one_last, one_part, one_represented};
 
+use crate::values::Assigned;
 use yasna_base::models::{ObjectIdentifier, TaggedDerValue};
 use yasna_base::tags::{TAG_NULL, TAG_SEQUENCE};
 use yasna_base::{ASN1Result, BERMode, PCBit, Tag};
@@ -75,6 +76,15 @@ impl DefinedType for Algorithm {
     }
 
     ghost unambiguous = { refl };
+}
+
+impl CheckedType for Algorithm {
+    fn accepts_value(&self) -> bool {
+        accepts_fields::<(ObjectIdentifier, Last<TaggedDerValue>), _>((
+            &self.algorithm,
+            &self.parameters,
+        ))
+    }
 }
 
 /// `id-sha1`.
@@ -170,6 +180,7 @@ impl TestedDefault<Algorithm> for Mgf1Sha1 {
         (one_element (raw_value sequence_tag Constructed (6 ∷ 5 ∷ 43 ∷ 14 ∷ 3 ∷ 2 ∷ 26 ∷ 5 ∷ 0 ∷ []))))))) };
 }
 
+// Octets of salt: 20, if they are omitted. The trailer field: 1, if it is.
 type Numbers = (
     Default<Explicit<Context<2>, u64>, Natural<20>>,
     (Default<Explicit<Context<3>, u64>, Natural<1>>, ()),
@@ -181,98 +192,11 @@ type Parts = OrDefault<
     OrDefault<Explicit<Context<1>, Algorithm>, Mgf1Sha1, Numbers>,
 >;
 
-type Fields = (Option<Algorithm>, (Option<Algorithm>, (u64, (u64, ()))));
+/// The parameters of RSASSA-PSS. `None` is the hash algorithm SHA-1, or MGF1 with SHA-1.
+pub struct PssParams;
 
-/// The parameters of RSASSA-PSS.
-#[derive(Drop)]
-pub struct PssParams {
-    /// `None` is SHA-1.
-    pub hash_algorithm: Option<Algorithm>,
-    /// `None` is MGF1 with SHA-1.
-    pub mask_gen_algorithm: Option<Algorithm>,
-    /// In octets; 20, if it is omitted.
-    pub salt_length: u64,
-    /// 1, if it is omitted.
-    pub trailer_field: u64,
-}
-
-impl DefinedType for PssParams {
+impl Assigned for PssParams {
     type Notation = Sequence<Parts>;
 
-    ghost value_of = { λ v. (v.hash_algorithm, (v.mask_gen_algorithm, (v.salt_length, (v.trailer_field, tt)))) };
-
-    fn from_value(
-        (hash_algorithm, (mask_gen_algorithm, (salt_length, (trailer_field, ())))): Fields,
-    ) -> PssParams {
-        PssParams {
-            hash_algorithm,
-            mask_gen_algorithm,
-            salt_length,
-            trailer_field,
-        }
-    }
-
-    fn write_value(&self, writer: DERWriter<'_>) -> ASN1Result<()> {
-        Sequence::<Parts>::write_fields(
-            (
-                &self.hash_algorithm,
-                (
-                    &self.mask_gen_algorithm,
-                    (&self.salt_length, (&self.trailer_field, ())),
-                ),
-            ),
-            writer,
-        )
-    }
-
-    fn prepend_value(&self, under: Option<Tag>, out: &mut PrependBuffer) -> ASN1Result<()> {
-        Sequence::<Parts>::prepend_fields(
-            (
-                &self.hash_algorithm,
-                (
-                    &self.mask_gen_algorithm,
-                    (&self.salt_length, (&self.trailer_field, ())),
-                ),
-            ),
-            under,
-            out,
-        )
-    }
-
-    fn value_len(&self, under: Option<Tag>, mode: BERMode) -> Option<usize> {
-        Sequence::<Parts>::fields_len(
-            (
-                &self.hash_algorithm,
-                (
-                    &self.mask_gen_algorithm,
-                    (&self.salt_length, (&self.trailer_field, ())),
-                ),
-            ),
-            under,
-            mode,
-        )
-    }
-
     ghost unambiguous = { refl };
-}
-
-impl CheckedType for Algorithm {
-    fn accepts_value(&self) -> bool {
-        accepts_fields::<(ObjectIdentifier, Last<TaggedDerValue>), _>((
-            &self.algorithm,
-            &self.parameters,
-        ))
-    }
-}
-
-impl CheckedType for PssParams {
-    fn accepts_value(&self) -> bool {
-        accepts_fields::<Parts, _>((
-            &self.hash_algorithm,
-            (
-                &self.mask_gen_algorithm,
-                (&self.salt_length, (&self.trailer_field, ())),
-            ),
-        ))
-    }
 }
