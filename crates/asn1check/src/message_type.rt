@@ -6,7 +6,7 @@ ghost use Rattle.asn1check.specs.Rewriting.{Rewritten};
 ghost use Rattle.asn1check.specs.Messages.{AllChecked, Reencoded};
 ghost use Rattle.asn1check.specs.declared.message_type.MessageType.{MessageType};
 
-use crate::reading::{all_checked, converted, locate, rewritten};
+use crate::reading::{message_converted, message_located, message_rewritten, messages_checked};
 use cms::ContentInfo;
 use ec_keys::EcPrivateKey;
 use ldap::LdapMessage;
@@ -148,30 +148,28 @@ impl MessageType {
             (AllChecked ⟦<Encoded<TimeStampResp> as BERDecodable>⟧.encodes mode bytes.now result) }
     {
         match self {
-            MessageType::Certificate => all_checked::<Encoded<Certificate>>(alloc, mode, bytes),
-            MessageType::CertificateList => all_checked::<Encoded<CertificateList>>(
+            MessageType::Certificate => messages_checked::<Certificate>(alloc, mode, bytes),
+            MessageType::CertificateList => messages_checked::<CertificateList>(alloc, mode, bytes),
+            MessageType::CertificationRequest => messages_checked::<CertificationRequest>(
                 alloc, mode, bytes,
             ),
-            MessageType::CertificationRequest => all_checked::<Encoded<CertificationRequest>>(
+            MessageType::SubjectPublicKeyInfo => messages_checked::<SubjectPublicKeyInfo>(
                 alloc, mode, bytes,
             ),
-            MessageType::SubjectPublicKeyInfo => all_checked::<Encoded<SubjectPublicKeyInfo>>(
+            MessageType::OneAsymmetricKey => messages_checked::<OneAsymmetricKey>(
                 alloc, mode, bytes,
             ),
-            MessageType::OneAsymmetricKey => all_checked::<Encoded<OneAsymmetricKey>>(
-                alloc, mode, bytes,
-            ),
-            MessageType::RsaPublicKey => all_checked::<Encoded<RsaPublicKey>>(alloc, mode, bytes),
-            MessageType::RsaPrivateKey => all_checked::<Encoded<RsaPrivateKey>>(alloc, mode, bytes),
-            MessageType::EcPrivateKey => all_checked::<Encoded<EcPrivateKey>>(alloc, mode, bytes),
-            MessageType::ContentInfo => all_checked::<Encoded<ContentInfo>>(alloc, mode, bytes),
-            MessageType::SnmpV1 => all_checked::<Encoded<v1::SnmpMessage>>(alloc, mode, bytes),
-            MessageType::SnmpV2c => all_checked::<Encoded<v2c::SnmpMessage>>(alloc, mode, bytes),
-            MessageType::LdapMessage => all_checked::<Encoded<LdapMessage>>(alloc, mode, bytes),
-            MessageType::OcspRequest => all_checked::<Encoded<OcspRequest>>(alloc, mode, bytes),
-            MessageType::OcspResponse => all_checked::<Encoded<OcspResponse>>(alloc, mode, bytes),
-            MessageType::TimeStampReq => all_checked::<Encoded<TimeStampReq>>(alloc, mode, bytes),
-            MessageType::TimeStampResp => all_checked::<Encoded<TimeStampResp>>(alloc, mode, bytes),
+            MessageType::RsaPublicKey => messages_checked::<RsaPublicKey>(alloc, mode, bytes),
+            MessageType::RsaPrivateKey => messages_checked::<RsaPrivateKey>(alloc, mode, bytes),
+            MessageType::EcPrivateKey => messages_checked::<EcPrivateKey>(alloc, mode, bytes),
+            MessageType::ContentInfo => messages_checked::<ContentInfo>(alloc, mode, bytes),
+            MessageType::SnmpV1 => messages_checked::<v1::SnmpMessage>(alloc, mode, bytes),
+            MessageType::SnmpV2c => messages_checked::<v2c::SnmpMessage>(alloc, mode, bytes),
+            MessageType::LdapMessage => messages_checked::<LdapMessage>(alloc, mode, bytes),
+            MessageType::OcspRequest => messages_checked::<OcspRequest>(alloc, mode, bytes),
+            MessageType::OcspResponse => messages_checked::<OcspResponse>(alloc, mode, bytes),
+            MessageType::TimeStampReq => messages_checked::<TimeStampReq>(alloc, mode, bytes),
+            MessageType::TimeStampResp => messages_checked::<TimeStampResp>(alloc, mode, bytes),
         }
     }
 
@@ -199,26 +197,26 @@ impl MessageType {
             (Rewritten ⟦<Encoded<TimeStampResp> as BERDecodable>⟧.encodes ⟦<Encoded<TimeStampResp> as DEREncodable>⟧.encoding bytes.now result) }
     {
         match self {
-            MessageType::Certificate => rewritten::<Encoded<Certificate>>(alloc, bytes),
-            MessageType::CertificateList => rewritten::<Encoded<CertificateList>>(alloc, bytes),
-            MessageType::CertificationRequest => rewritten::<Encoded<CertificationRequest>>(
+            MessageType::Certificate => message_rewritten::<Certificate>(alloc, bytes),
+            MessageType::CertificateList => message_rewritten::<CertificateList>(alloc, bytes),
+            MessageType::CertificationRequest => message_rewritten::<CertificationRequest>(
                 alloc, bytes,
             ),
-            MessageType::SubjectPublicKeyInfo => rewritten::<Encoded<SubjectPublicKeyInfo>>(
+            MessageType::SubjectPublicKeyInfo => message_rewritten::<SubjectPublicKeyInfo>(
                 alloc, bytes,
             ),
-            MessageType::OneAsymmetricKey => rewritten::<Encoded<OneAsymmetricKey>>(alloc, bytes),
-            MessageType::RsaPublicKey => rewritten::<Encoded<RsaPublicKey>>(alloc, bytes),
-            MessageType::RsaPrivateKey => rewritten::<Encoded<RsaPrivateKey>>(alloc, bytes),
-            MessageType::EcPrivateKey => rewritten::<Encoded<EcPrivateKey>>(alloc, bytes),
-            MessageType::ContentInfo => rewritten::<Encoded<ContentInfo>>(alloc, bytes),
-            MessageType::SnmpV1 => rewritten::<Encoded<v1::SnmpMessage>>(alloc, bytes),
-            MessageType::SnmpV2c => rewritten::<Encoded<v2c::SnmpMessage>>(alloc, bytes),
-            MessageType::LdapMessage => rewritten::<Encoded<LdapMessage>>(alloc, bytes),
-            MessageType::OcspRequest => rewritten::<Encoded<OcspRequest>>(alloc, bytes),
-            MessageType::OcspResponse => rewritten::<Encoded<OcspResponse>>(alloc, bytes),
-            MessageType::TimeStampReq => rewritten::<Encoded<TimeStampReq>>(alloc, bytes),
-            MessageType::TimeStampResp => rewritten::<Encoded<TimeStampResp>>(alloc, bytes),
+            MessageType::OneAsymmetricKey => message_rewritten::<OneAsymmetricKey>(alloc, bytes),
+            MessageType::RsaPublicKey => message_rewritten::<RsaPublicKey>(alloc, bytes),
+            MessageType::RsaPrivateKey => message_rewritten::<RsaPrivateKey>(alloc, bytes),
+            MessageType::EcPrivateKey => message_rewritten::<EcPrivateKey>(alloc, bytes),
+            MessageType::ContentInfo => message_rewritten::<ContentInfo>(alloc, bytes),
+            MessageType::SnmpV1 => message_rewritten::<v1::SnmpMessage>(alloc, bytes),
+            MessageType::SnmpV2c => message_rewritten::<v2c::SnmpMessage>(alloc, bytes),
+            MessageType::LdapMessage => message_rewritten::<LdapMessage>(alloc, bytes),
+            MessageType::OcspRequest => message_rewritten::<OcspRequest>(alloc, bytes),
+            MessageType::OcspResponse => message_rewritten::<OcspResponse>(alloc, bytes),
+            MessageType::TimeStampReq => message_rewritten::<TimeStampReq>(alloc, bytes),
+            MessageType::TimeStampResp => message_rewritten::<TimeStampResp>(alloc, bytes),
         }
     }
 
@@ -246,17 +244,15 @@ impl MessageType {
             result ≡ None }
     {
         match self {
-            MessageType::RsaPublicKey => Some(converted::<Encoded<RsaPublicKey>>(
+            MessageType::RsaPublicKey => Some(message_converted::<RsaPublicKey>(
                 alloc, mode, bytes,
             )),
-            MessageType::RsaPrivateKey => Some(converted::<Encoded<RsaPrivateKey>>(
+            MessageType::RsaPrivateKey => Some(message_converted::<RsaPrivateKey>(
                 alloc, mode, bytes,
             )),
-            MessageType::SnmpV1 => Some(converted::<Encoded<v1::SnmpMessage>>(alloc, mode, bytes)),
-            MessageType::SnmpV2c => Some(converted::<Encoded<v2c::SnmpMessage>>(
-                alloc, mode, bytes,
-            )),
-            MessageType::OcspResponse => Some(converted::<Encoded<OcspResponse>>(
+            MessageType::SnmpV1 => Some(message_converted::<v1::SnmpMessage>(alloc, mode, bytes)),
+            MessageType::SnmpV2c => Some(message_converted::<v2c::SnmpMessage>(alloc, mode, bytes)),
+            MessageType::OcspResponse => Some(message_converted::<OcspResponse>(
                 alloc, mode, bytes,
             )),
             _ => None,
@@ -268,28 +264,28 @@ impl MessageType {
     /// It is for reports: no contract says what it returns.
     pub fn located(self, alloc: Global, mode: BERMode, bytes: &[u8]) -> Option<Located> {
         match self {
-            MessageType::Certificate => locate::<Encoded<Certificate>>(alloc, mode, bytes),
-            MessageType::CertificateList => locate::<Encoded<CertificateList>>(alloc, mode, bytes),
-            MessageType::CertificationRequest => locate::<Encoded<CertificationRequest>>(
+            MessageType::Certificate => message_located::<Certificate>(alloc, mode, bytes),
+            MessageType::CertificateList => message_located::<CertificateList>(alloc, mode, bytes),
+            MessageType::CertificationRequest => message_located::<CertificationRequest>(
                 alloc, mode, bytes,
             ),
-            MessageType::SubjectPublicKeyInfo => locate::<Encoded<SubjectPublicKeyInfo>>(
+            MessageType::SubjectPublicKeyInfo => message_located::<SubjectPublicKeyInfo>(
                 alloc, mode, bytes,
             ),
-            MessageType::OneAsymmetricKey => locate::<Encoded<OneAsymmetricKey>>(
+            MessageType::OneAsymmetricKey => message_located::<OneAsymmetricKey>(
                 alloc, mode, bytes,
             ),
-            MessageType::RsaPublicKey => locate::<Encoded<RsaPublicKey>>(alloc, mode, bytes),
-            MessageType::RsaPrivateKey => locate::<Encoded<RsaPrivateKey>>(alloc, mode, bytes),
-            MessageType::EcPrivateKey => locate::<Encoded<EcPrivateKey>>(alloc, mode, bytes),
-            MessageType::ContentInfo => locate::<Encoded<ContentInfo>>(alloc, mode, bytes),
-            MessageType::SnmpV1 => locate::<Encoded<v1::SnmpMessage>>(alloc, mode, bytes),
-            MessageType::SnmpV2c => locate::<Encoded<v2c::SnmpMessage>>(alloc, mode, bytes),
-            MessageType::LdapMessage => locate::<Encoded<LdapMessage>>(alloc, mode, bytes),
-            MessageType::OcspRequest => locate::<Encoded<OcspRequest>>(alloc, mode, bytes),
-            MessageType::OcspResponse => locate::<Encoded<OcspResponse>>(alloc, mode, bytes),
-            MessageType::TimeStampReq => locate::<Encoded<TimeStampReq>>(alloc, mode, bytes),
-            MessageType::TimeStampResp => locate::<Encoded<TimeStampResp>>(alloc, mode, bytes),
+            MessageType::RsaPublicKey => message_located::<RsaPublicKey>(alloc, mode, bytes),
+            MessageType::RsaPrivateKey => message_located::<RsaPrivateKey>(alloc, mode, bytes),
+            MessageType::EcPrivateKey => message_located::<EcPrivateKey>(alloc, mode, bytes),
+            MessageType::ContentInfo => message_located::<ContentInfo>(alloc, mode, bytes),
+            MessageType::SnmpV1 => message_located::<v1::SnmpMessage>(alloc, mode, bytes),
+            MessageType::SnmpV2c => message_located::<v2c::SnmpMessage>(alloc, mode, bytes),
+            MessageType::LdapMessage => message_located::<LdapMessage>(alloc, mode, bytes),
+            MessageType::OcspRequest => message_located::<OcspRequest>(alloc, mode, bytes),
+            MessageType::OcspResponse => message_located::<OcspResponse>(alloc, mode, bytes),
+            MessageType::TimeStampReq => message_located::<TimeStampReq>(alloc, mode, bytes),
+            MessageType::TimeStampResp => message_located::<TimeStampResp>(alloc, mode, bytes),
         }
     }
 }

@@ -6,7 +6,6 @@ use std::alloc::Global;
 use x509::{Certificate, CertificateList, Signed, read_signed_certificate, read_signed_list};
 use yasna::BERMode::{Ber, Cer};
 use yasna::{ASN1Error, ASN1ErrorKind, ASN1Result, BERReader, parse_der};
-use yasna_notation::Encoded;
 
 // `openssl req -x509` with a key on P-256 and extensions: v3.
 const AUTHORITY: &str =
@@ -190,10 +189,10 @@ static ROWS: [Row; 19] = [
     ),
 ];
 
-impl Looks for Encoded<Certificate> {
+impl Looks for Certificate {
     // Whether it has the version and the number of AUTHORITY, the first version, or the issuer's number of UNIQUE.
     fn has(&self, fields: Fields) -> bool {
-        let certificate = &self.value.tbs_certificate;
+        let certificate = &self.tbs_certificate;
         match fields {
             Fields::All => certificate.version == 2 && is_of_authority(&certificate.serial_number),
             Fields::FirstVersion => certificate.version == 0,
@@ -213,12 +212,12 @@ fn has_issuer_id(id: &Option<(Vec<u8>, usize)>) -> bool {
     }
 }
 
-impl Looks for Encoded<CertificateList> {
+impl Looks for CertificateList {
     // Whether it is of version 2, and revokes one certificate.
     fn has(&self, _fields: Fields) -> bool {
-        match &self.value.tbs_cert_list.revoked_certificates {
+        match &self.tbs_cert_list.revoked_certificates {
             Some(certificates) => {
-                self.value.tbs_cert_list.version == Some(1) && certificates.len() == 1
+                self.tbs_cert_list.version == Some(1) && certificates.len() == 1
             }
             None => false,
         }

@@ -7,7 +7,7 @@ use yasna::{
     DERExact, PrependBuffer, construct_cer, construct_der, decode_ber, decode_ber_general,
     decode_cer, decode_der, encode_cer, encode_der, one_der_encoding, one_encoding,
 };
-use yasna_notation::{Encoded, Message};
+use yasna_notation::{CanonicalNotation, Encoded, Message};
 use yasna_notation_constraints::{Checked, IsValid};
 
 /// What is so of a row's bytes.
@@ -145,8 +145,8 @@ fn rejects<T: Drop>(outcome: ASN1Result<T>) -> bool {
     }
 }
 
-/// Whether the claim is so of these bytes, where it is of no fields.
-pub fn holds<T: BERDecodable + DEREncodable + DERExact>(
+// Whether the claim is so of these bytes, where it is of no fields.
+fn holds<T: BERDecodable + DEREncodable + DERExact>(
     alloc: Global,
     bytes: &[u8],
     claim: Claim,
@@ -174,15 +174,29 @@ pub fn says<T: BERDecodable + Looks>(
     }
 }
 
-/// Whether the claim is so of these bytes, where it may be of fields.
-pub fn holds_or_says<T: BERDecodable + DEREncodable + DERExact + Looks>(
+/// Whether the claim is so of a message, where it is of no fields.
+pub fn holds_of<T: Message>(alloc: Global, bytes: &[u8], claim: Claim) -> bool {
+    holds::<Encoded<T>>(alloc, bytes, claim)
+}
+
+// Whether a message is read from these bytes, whose fields are as the row says.
+fn message_says<T: Message + Looks>(
     alloc: Global,
     bytes: &[u8],
-    claim: Claim,
+    mode: BERMode,
+    fields: Fields,
 ) -> bool {
+    match decode_ber_general::<Encoded<T>>(alloc, bytes, mode) {
+        Ok(read) => read.value.has(fields),
+        Err(_) => false,
+    }
+}
+
+/// Whether the claim is so of a message, where it may be of fields.
+pub fn holds_or_says<T: Message + Looks>(alloc: Global, bytes: &[u8], claim: Claim) -> bool {
     match claim {
-        Claim::Says(mode, fields) => says::<T>(alloc, bytes, mode, fields),
-        _ => holds::<T>(alloc, bytes, claim),
+        Claim::Says(mode, fields) => message_says::<T>(alloc, bytes, mode, fields),
+        _ => holds::<Encoded<T>>(alloc, bytes, claim),
     }
 }
 
@@ -195,8 +209,8 @@ fn normalized<T: BERDecodable + DEREncodable + DERCanonical>(
     encode_der(alloc, &value)
 }
 
-/// Whether DER rejects these bytes, which BER reads, and whose DER encoding is that of the text.
-pub fn becomes<T: BERDecodable + DEREncodable + DERCanonical>(
+// Whether DER rejects these bytes, which BER reads, and whose DER encoding is that of the text.
+fn becomes<T: BERDecodable + DEREncodable + DERCanonical>(
     alloc: Global,
     bytes: &[u8],
     encoding: &str,
@@ -208,6 +222,15 @@ pub fn becomes<T: BERDecodable + DEREncodable + DERCanonical>(
         }
         Err(_) => false,
     }
+}
+
+/// Whether DER rejects these bytes, which BER reads, and the message's DER encoding is that of the text.
+pub fn message_becomes<T: Message + CanonicalNotation>(
+    alloc: Global,
+    bytes: &[u8],
+    encoding: &str,
+) -> bool {
+    becomes::<Encoded<T>>(alloc, bytes, encoding)
 }
 
 // The DER encoding of a message that BER reads from these bytes, or none if it can't be written.

@@ -8,8 +8,8 @@ use std::alloc::Global;
 use yasna::BERMode::Ber;
 use yasna::models::TaggedDerValue;
 use yasna::tags::TAG_SEQUENCE;
-use yasna::{ASN1Result, BERDecodable, decode_ber, encode_der};
-use yasna_notation::Encoded;
+use yasna::{ASN1Result, decode_ber, encode_der};
+use yasna_notation::{Encoded, Message};
 
 // `openssl genpkey -algorithm ED25519 -outform DER`.
 const ED25519: &str =
@@ -266,32 +266,32 @@ static ROWS: [Row; 30] = [
     ),
 ];
 
-impl Looks for Encoded<OneAsymmetricKey> {
+impl Looks for OneAsymmetricKey {
     // Whether it has a version and a public key of 32 octets, and as many unknown elements as the row says.
     fn has(&self, fields: Fields) -> bool {
         let unknown = match fields {
             Fields::Unknown => 1,
             _ => 0,
         };
-        if self.value.unknown.len() != unknown {
+        if self.unknown.len() != unknown {
             return false;
         }
-        match &self.value.public_key {
-            Some((octets, bits)) => self.value.version == 1 && octets.len() == 32 && *bits == 256,
+        match &self.public_key {
+            Some((octets, bits)) => self.version == 1 && octets.len() == 32 && *bits == 256,
             None => false,
         }
     }
 }
 
-impl Looks for Encoded<SignedData> {
+impl Looks for SignedData {
     // Whether it is a greeting that one has signed, or of the first version and signed by no one.
     fn has(&self, fields: Fields) -> bool {
         match fields {
-            Fields::FirstVersion => self.value.version == 0 && self.value.signer_infos.is_empty(),
+            Fields::FirstVersion => self.version == 0 && self.signer_infos.is_empty(),
             _ => {
-                self.value.version == 3
-                    && self.value.signer_infos.len() == 1
-                    && greets(&self.value.encap_content_info)
+                self.version == 3
+                    && self.signer_infos.len() == 1
+                    && greets(&self.encap_content_info)
             }
         }
     }
@@ -304,33 +304,28 @@ fn greets(signed: &EncapsulatedContentInfo) -> bool {
     }
 }
 
-impl Looks for Encoded<ContentInfo> {
+impl Looks for ContentInfo {
     fn has(&self, _fields: Fields) -> bool {
-        self.value.content.tag() == TAG_SEQUENCE
+        self.content.tag() == TAG_SEQUENCE
     }
 }
 
-impl Looks for Encoded<EnvelopedData> {
+impl Looks for EnvelopedData {
     fn has(&self, _fields: Fields) -> bool {
-        self.value.recipient_infos.len() == 1
-            && self
-                .value
-                .encrypted_content_info
-                .encrypted_content
-                .is_some()
+        self.recipient_infos.len() == 1 && self.encrypted_content_info.encrypted_content.is_some()
     }
 }
 
-fn content<T: BERDecodable>(alloc: Global, bytes: &[u8]) -> ASN1Result<T> {
+fn content<T: Message>(alloc: Global, bytes: &[u8]) -> ASN1Result<Encoded<T>> {
     let message: Encoded<ContentInfo> = decode_ber(alloc, bytes)?;
     decode_content(alloc, &message.value)
 }
 
 /// Whether the claim is so of what a ContentInfo of these bytes contains, as BER reads both.
-pub fn is_content<T: BERDecodable + Looks>(alloc: Global, bytes: &[u8], claim: Claim) -> bool {
+pub fn is_content<T: Message + Looks>(alloc: Global, bytes: &[u8], claim: Claim) -> bool {
     match content::<T>(alloc, bytes) {
-        Ok(value) => match claim {
-            Claim::Says(_, fields) => value.has(fields),
+        Ok(read) => match claim {
+            Claim::Says(_, fields) => read.value.has(fields),
             _ => false,
         },
         Err(_) => matches!(claim, Claim::IsRejected(_)),

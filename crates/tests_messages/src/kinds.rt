@@ -1,7 +1,7 @@
 //! What a row is, and by what its kind is checked.
 
 use crate::certificates::is_signed;
-use crate::checks::{Claim, becomes, bytes_of, holds, holds_of_message, holds_or_says};
+use crate::checks::{Claim, bytes_of, holds_of, holds_of_message, holds_or_says, message_becomes};
 use crate::extensions::{Extension, is_extension};
 use crate::keys::{is_content, is_raw};
 use crate::messages::{Part, is_part};
@@ -19,7 +19,6 @@ use snmp::{v1, v2c};
 use std::alloc::Global;
 use tsp::{TimeStampReq, TimeStampResp, TstInfo};
 use x509::{Certificate, CertificateList};
-use yasna_notation::Encoded;
 
 /// A message of OCSP or of the time-stamp protocol.
 #[derive(Clone, Copy)]
@@ -86,36 +85,34 @@ fn content_of(bytes: &[u8]) -> &[u8] {
 
 fn is_so(alloc: Global, kind: Kind, bytes: &[u8], claim: Claim) -> bool {
     match kind {
-        Kind::Certificate => holds_or_says::<Encoded<Certificate>>(alloc, bytes, claim),
-        Kind::CertificateList => holds_or_says::<Encoded<CertificateList>>(alloc, bytes, claim),
+        Kind::Certificate => holds_or_says::<Certificate>(alloc, bytes, claim),
+        Kind::CertificateList => holds_or_says::<CertificateList>(alloc, bytes, claim),
         Kind::SignedCertificate => is_signed(alloc, bytes, claim, false),
         Kind::SignedList => is_signed(alloc, bytes, claim, true),
-        Kind::PrivateKeyInfo => holds::<Encoded<PrivateKeyInfo>>(alloc, bytes, claim),
-        Kind::OneAsymmetricKey => holds_or_says::<Encoded<OneAsymmetricKey>>(alloc, bytes, claim),
-        Kind::CertificationRequest => holds::<Encoded<CertificationRequest>>(alloc, bytes, claim),
-        Kind::RsaPublicKey => holds::<Encoded<RsaPublicKey>>(alloc, bytes, claim),
+        Kind::PrivateKeyInfo => holds_of::<PrivateKeyInfo>(alloc, bytes, claim),
+        Kind::OneAsymmetricKey => holds_or_says::<OneAsymmetricKey>(alloc, bytes, claim),
+        Kind::CertificationRequest => holds_of::<CertificationRequest>(alloc, bytes, claim),
+        Kind::RsaPublicKey => holds_of::<RsaPublicKey>(alloc, bytes, claim),
         Kind::RsaPrivateKey => match claim {
-            Claim::Becomes(encoding) => becomes::<Encoded<RsaPrivateKey>>(alloc, bytes, encoding),
-            _ => holds::<Encoded<RsaPrivateKey>>(alloc, bytes, claim),
+            Claim::Becomes(encoding) => message_becomes::<RsaPrivateKey>(alloc, bytes, encoding),
+            _ => holds_of::<RsaPrivateKey>(alloc, bytes, claim),
         },
-        Kind::EcPrivateKey => holds::<Encoded<EcPrivateKey>>(alloc, bytes, claim),
-        Kind::ContentInfo => holds_or_says::<Encoded<ContentInfo>>(alloc, bytes, claim),
-        Kind::SignedData => holds::<Encoded<SignedData>>(alloc, content_of(bytes), claim),
-        Kind::EnvelopedData => holds::<Encoded<EnvelopedData>>(alloc, content_of(bytes), claim),
-        Kind::SignedContent => is_content::<Encoded<SignedData>>(alloc, bytes, claim),
-        Kind::EnvelopedContent => is_content::<Encoded<EnvelopedData>>(alloc, bytes, claim),
+        Kind::EcPrivateKey => holds_of::<EcPrivateKey>(alloc, bytes, claim),
+        Kind::ContentInfo => holds_or_says::<ContentInfo>(alloc, bytes, claim),
+        Kind::SignedData => holds_of::<SignedData>(alloc, content_of(bytes), claim),
+        Kind::EnvelopedData => holds_of::<EnvelopedData>(alloc, content_of(bytes), claim),
+        Kind::SignedContent => is_content::<SignedData>(alloc, bytes, claim),
+        Kind::EnvelopedContent => is_content::<EnvelopedData>(alloc, bytes, claim),
         Kind::Raw => is_raw(alloc, bytes, claim),
-        Kind::LdapMessage => holds_or_says::<Encoded<LdapMessage>>(alloc, bytes, claim),
+        Kind::LdapMessage => holds_or_says::<LdapMessage>(alloc, bytes, claim),
         Kind::LdapFilter => match claim {
-            Claim::Becomes(encoding) => becomes::<Encoded<Filter>>(alloc, bytes, encoding),
-            _ => holds::<Encoded<Filter>>(alloc, bytes, claim),
+            Claim::Becomes(encoding) => message_becomes::<Filter>(alloc, bytes, encoding),
+            _ => holds_of::<Filter>(alloc, bytes, claim),
         },
-        Kind::SnmpV1 => holds_or_says::<Encoded<v1::SnmpMessage>>(alloc, bytes, claim),
+        Kind::SnmpV1 => holds_or_says::<v1::SnmpMessage>(alloc, bytes, claim),
         Kind::SnmpV2c => match claim {
-            Claim::Becomes(encoding) => becomes::<Encoded<v2c::SnmpMessage>>(
-                alloc, bytes, encoding,
-            ),
-            _ => holds_or_says::<Encoded<v2c::SnmpMessage>>(alloc, bytes, claim),
+            Claim::Becomes(encoding) => message_becomes::<v2c::SnmpMessage>(alloc, bytes, encoding),
+            _ => holds_or_says::<v2c::SnmpMessage>(alloc, bytes, claim),
         },
         Kind::Online(message) => is_online(alloc, message, bytes, claim),
         Kind::Extension(extension) => is_extension(alloc, extension, bytes, claim),
@@ -123,7 +120,7 @@ fn is_so(alloc: Global, kind: Kind, bytes: &[u8], claim: Claim) -> bool {
         Kind::ReasonFlags => is_reason_flags(alloc, bytes, claim),
         Kind::Part(part) => is_part(alloc, part, bytes, claim),
         Kind::Pairs => is_in_a_sequence(alloc, bytes, claim),
-        Kind::Texts => holds::<Encoded<Texts>>(alloc, bytes, claim),
+        Kind::Texts => holds_of::<Texts>(alloc, bytes, claim),
     }
 }
 

@@ -7,7 +7,6 @@ use ldap::{
     ResultCode, Scope,
 };
 use yasna::BERMode::Ber;
-use yasna_notation::Encoded;
 
 static ROWS: [Row; 77] = [
     // messages in DER
@@ -497,12 +496,12 @@ static ROWS: [Row; 77] = [
     ),
 ];
 
-impl Looks for Encoded<LdapMessage> {
+impl Looks for LdapMessage {
     fn has(&self, fields: Fields) -> bool {
         match fields {
-            Fields::Numbers => has_numbers(&self.value.protocol_op),
-            Fields::Unknown => is_unknown(&self.value),
-            _ => is_whole(&self.value),
+            Fields::Numbers => has_numbers(&self.protocol_op),
+            Fields::Unknown => is_unknown(self),
+            _ => is_whole(self),
         }
     }
 }

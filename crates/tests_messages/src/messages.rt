@@ -1,12 +1,11 @@
 //! Messages that are types made of types: a DER encoding comes back as it was, and what is none is rejected.
 
-use crate::checks::{Claim, finds_none, holds};
+use crate::checks::{Claim, finds_none, holds_of};
 use crate::kinds::{Kind, Row, first_failing};
 use snmp::{ApplicationSyntax, SimpleSyntax};
 use std::alloc::Global;
 use x509::{AlgorithmIdentifier, Attribute, Extensions, Name, SubjectPublicKeyInfo, Validity};
 use yasna::BERMode::Ber;
-use yasna_notation::Encoded;
 
 /// A part of a message.
 #[derive(Clone, Copy)]
@@ -171,14 +170,14 @@ static ROWS: [Row; 24] = [
 /// Whether the claim is so of such a part.
 pub fn is_part(alloc: Global, part: Part, bytes: &[u8], claim: Claim) -> bool {
     match part {
-        Part::Algorithm => holds::<Encoded<AlgorithmIdentifier>>(alloc, bytes, claim),
-        Part::PublicKey => holds::<Encoded<SubjectPublicKeyInfo>>(alloc, bytes, claim),
-        Part::Name => holds::<Encoded<Name>>(alloc, bytes, claim),
-        Part::Attribute => holds::<Encoded<Attribute>>(alloc, bytes, claim),
-        Part::Validity => holds::<Encoded<Validity>>(alloc, bytes, claim),
-        Part::Extensions => holds::<Encoded<Extensions>>(alloc, bytes, claim),
-        Part::Simple => holds::<Encoded<SimpleSyntax>>(alloc, bytes, claim),
-        Part::Application => holds::<Encoded<ApplicationSyntax>>(alloc, bytes, claim),
+        Part::Algorithm => holds_of::<AlgorithmIdentifier>(alloc, bytes, claim),
+        Part::PublicKey => holds_of::<SubjectPublicKeyInfo>(alloc, bytes, claim),
+        Part::Name => holds_of::<Name>(alloc, bytes, claim),
+        Part::Attribute => holds_of::<Attribute>(alloc, bytes, claim),
+        Part::Validity => holds_of::<Validity>(alloc, bytes, claim),
+        Part::Extensions => holds_of::<Extensions>(alloc, bytes, claim),
+        Part::Simple => holds_of::<SimpleSyntax>(alloc, bytes, claim),
+        Part::Application => holds_of::<ApplicationSyntax>(alloc, bytes, claim),
     }
 }
 

@@ -1,12 +1,11 @@
 //! The named bits of `KeyUsage` and `ReasonFlags`: what the octets hold of extensions in certificates that `openssl req -x509` made, with
 //! `keyUsage` and `reasons` in its configuration, and rows made of these.
 
-use crate::checks::{Claim, Fields, Looks, becomes, finds_none, holds_or_says};
+use crate::checks::{Claim, Fields, Looks, finds_none, holds_or_says, message_becomes};
 use crate::kinds::{Kind, Row, first_failing};
 use std::alloc::Global;
 use x509::{KeyUsage, ReasonFlags};
 use yasna::BERMode::Ber;
-use yasna_notation::Encoded;
 
 static ROWS: [Row; 18] = [
     (
@@ -117,16 +116,16 @@ static ROWS: [Row; 18] = [
 /// Whether the claim is so of a KeyUsage.
 pub fn is_key_usage(alloc: Global, bytes: &[u8], claim: Claim) -> bool {
     match claim {
-        Claim::Becomes(encoding) => becomes::<Encoded<KeyUsage>>(alloc, bytes, encoding),
-        _ => holds_or_says::<Encoded<KeyUsage>>(alloc, bytes, claim),
+        Claim::Becomes(encoding) => message_becomes::<KeyUsage>(alloc, bytes, encoding),
+        _ => holds_or_says::<KeyUsage>(alloc, bytes, claim),
     }
 }
 
 /// Whether the claim is so of ReasonFlags.
 pub fn is_reason_flags(alloc: Global, bytes: &[u8], claim: Claim) -> bool {
     match claim {
-        Claim::Becomes(encoding) => becomes::<Encoded<ReasonFlags>>(alloc, bytes, encoding),
-        _ => holds_or_says::<Encoded<ReasonFlags>>(alloc, bytes, claim),
+        Claim::Becomes(encoding) => message_becomes::<ReasonFlags>(alloc, bytes, encoding),
+        _ => holds_or_says::<ReasonFlags>(alloc, bytes, claim),
     }
 }
 
@@ -169,24 +168,24 @@ fn number_of(flags: &[bool]) -> u16 {
     number
 }
 
-impl Looks for Encoded<KeyUsage> {
+impl Looks for KeyUsage {
     fn has(&self, fields: Fields) -> bool {
         let names = match fields {
             Fields::Numbers => 0b1_0001_0000,
             Fields::Unknown => 0b0_0000_1111,
             _ => 0b1_1111_1111,
         };
-        names_of(&self.value) == names
+        names_of(self) == names
     }
 }
 
-impl Looks for Encoded<ReasonFlags> {
+impl Looks for ReasonFlags {
     fn has(&self, fields: Fields) -> bool {
         let names = match fields {
             Fields::Numbers => 0b0_0000_0110,
             _ => 0b1_1111_1110,
         };
-        reasons_of(&self.value) == names
+        reasons_of(self) == names
     }
 }
 

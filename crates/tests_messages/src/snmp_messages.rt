@@ -4,7 +4,6 @@ use crate::checks::{Claim, Fields, Looks, finds_none};
 use crate::kinds::{Kind, Row, first_failing};
 use snmp::{ApplicationSyntax, SimpleSyntax, v1, v2c};
 use yasna::BERMode::{Ber, Der};
-use yasna_notation::Encoded;
 
 // A get-request of SNMPv1, for sysDescr.0.
 const GET: &str =
@@ -135,15 +134,12 @@ static ROWS: [Row; 21] = [
     ),
 ];
 
-impl Looks for Encoded<v2c::SnmpMessage> {
+impl Looks for v2c::SnmpMessage {
     // Whether it is the result to the public community that RESPONSE is.
     fn has(&self, fields: Fields) -> bool {
         match fields {
-            Fields::Numbers => is_not_writable(&self.value.data),
-            _ => {
-                self.value.community.as_slice() == b"public".as_slice()
-                    && is_response(&self.value.data)
-            }
+            Fields::Numbers => is_not_writable(&self.data),
+            _ => { self.community.as_slice() == b"public".as_slice() && is_response(&self.data) }
         }
     }
 }
@@ -155,10 +151,10 @@ fn is_not_writable(data: &v2c::Pdus) -> bool {
     }
 }
 
-impl Looks for Encoded<v1::SnmpMessage> {
+impl Looks for v1::SnmpMessage {
     // Whether it is a trap of an enterprise, or a response with the error that the row speaks of.
     fn has(&self, fields: Fields) -> bool {
-        match &self.value.data {
+        match &self.data {
             v1::Pdus::Trap(trap) => trap.generic_trap == v1::GenericTrap::EnterpriseSpecific,
             v1::Pdus::GetResponse(pdu) => match fields {
                 Fields::Unknown => pdu.error_status == v1::ErrorStatus::Other(18),
