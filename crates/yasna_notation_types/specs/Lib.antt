@@ -5,6 +5,8 @@ pub mod AnyUnder
 pub mod PlainBits
 pub mod NamedBits
 pub mod LeastBits
+pub mod TestedBits
+pub mod EmptyLists
 pub mod SetParts
 pub mod SetReading
 pub mod Rest

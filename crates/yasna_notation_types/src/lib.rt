@@ -11,6 +11,7 @@
 //! | `others`, `possible_default`, `beginning` | these elements after OPTIONAL and DEFAULT parts, and such parts |
 //! | `set_part`, `set_choices` | types that may be a part of a SET |
 //! | `set_parts`, `set_defaults` | SET of parts |
+//! | `empty_lists`, `tested_bits` | the defaults of lists and of BIT STRINGs |
 //! | `tag_names` | the tags of the classes UNIVERSAL and PRIVATE, as types |
 //! | `tagged_fields` | the fields of a SEQUENCE, written under a tag of its own |
 //! | `bmp_string`, `octet_strings` | BMPString; strings of which `yasna` reads no text, as octets under their tag |
@@ -24,6 +25,7 @@ mod any_under;
 mod beginning;
 mod bmp_string;
 mod checked;
+mod empty_lists;
 mod least_bits;
 mod named;
 mod named_bits;
@@ -40,10 +42,12 @@ mod set_parts;
 mod statuses;
 mod tag_names;
 mod tagged_fields;
+mod tested_bits;
 
 pub use any_under::AnyUnder;
 pub use beginning::Beginning;
 pub use bmp_string::BmpString;
+pub use empty_lists::{EmptyList, has_no_items};
 pub use least_bits::LeastBits;
 pub use named::{Named, Numbered};
 pub use named_bits::NamedBits;
@@ -64,3 +68,4 @@ pub use tagged_fields::{
     explicit_fields_len, implicit_fields_len, prepend_explicit_fields, prepend_implicit_fields,
     write_explicit_fields, write_implicit_fields,
 };
+pub use tested_bits::{Bits, BitsValue};
