@@ -24,11 +24,17 @@ LISTING = ["--list", "--use", "x509", "-"]
 # The words of asn1check and asn1der for a type of a module.
 KEY_TYPE = ["--module", "modules/PKCS-1.asn1", "--type", "RSAPublicKey"]
 WRONG = b"3006 020105 0101FF"
+# A type that names one of a module that isn't given, and a value of it.
+WITHOUT_NAMES = ["--module", "modules/PKCS-8.asn1", "--type", "EncryptedPrivateKeyInfo"]
+ENCRYPTED = b"3006 3000 04020102"
 # What a program says of an input: the case's name, the words, the input, the status and what is on standard error.
 REPORTS = {
     "asn1show": [
         ("an element that is in no file", ["--at", "1", "-"], b"0500", 1, b"stdin: no element begins at the offset"),
         ("a page of several files", ["--html", "-", "-"], b"0500", 2, b"asn1show: --html takes one FILE"),
+        ("a type that no module gives", [*WITHOUT_NAMES, "-"], ENCRYPTED, 1, None),
+        ("any element for it", [*WITHOUT_NAMES, "--incomplete", "-"], ENCRYPTED, 0, b""),
+        ("--incomplete without a module", ["--incomplete", "-"], ENCRYPTED, 2, None),
     ],
     "asn1der": [
         ("the place of an error", [], b"3006 020105 0405 41", 1, b"offset 5: Eof"),
@@ -49,6 +55,7 @@ REPORTS = {
             1,
             b"offset 5, publicExponent: not in the module",
         ),
+        ("any element for a type that no module gives", [*WITHOUT_NAMES, "--incomplete", "-"], ENCRYPTED, 0, b""),
     ],
     "asn1check": [
         ("the place of an error", ["rsa-public-key"], WRONG, 1, b"stdin: message 1: offset 5, at publicExponent: Invalid: not in the module: BOOLEAN"),
@@ -82,6 +89,14 @@ REPORTS = {
             b"stdin: message 1: offset 5, publicExponent: not in the module: BOOLEAN",
         ),
         ("a module without a type", ["--module", "modules/PKCS-1.asn1"], b"", 2, None),
+        ("any element for a type that no module gives", [*WITHOUT_NAMES, "--incomplete", "-"], ENCRYPTED, 0, b""),
+        (
+            "a part after it that the type has not",
+            [*WITHOUT_NAMES, "--incomplete", "-"],
+            b"3005 3000 020100",
+            1,
+            b"stdin: message 1: offset 4, encryptedData: not in the module: INTEGER",
+        ),
         ("no block", ["any"], b"3000", 1, b"stdin: message 1: offset 4: Eof: expected a line that begins a block of PEM"),
         ("a kind that is none", ["x509", "-"], b"", 2, None),
     ]

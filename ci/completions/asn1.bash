@@ -3,9 +3,9 @@
 _asn1() {
     local word=${COMP_WORDS[COMP_CWORD]} options=
     case $1 in
-        *asn1show) options='--ber --der --cer --hex --pem --bytes --check --depth --at --extract --contents --dump --json --html --module --type --decimal --width --help --version' ;;
-        *asn1der) options='--strict --hex --bytes --pem --module --type --help --version' ;;
-        *asn1check) options='--ber --der --hex --pem --bytes --module --type --encode --help --version' ;;
+        *asn1show) options='--ber --der --cer --hex --pem --bytes --check --depth --at --extract --contents --dump --json --html --module --type --incomplete --decimal --width --help --version' ;;
+        *asn1der) options='--strict --hex --bytes --pem --module --type --incomplete --help --version' ;;
+        *asn1check) options='--ber --der --hex --pem --bytes --module --type --incomplete --encode --help --version' ;;
         *asn1compile) options='--crate --out --type --use --list --check --tests --incomplete --strict --help --version' ;;
     esac
     local kinds='certificate crl csr public-key private-key rsa-public-key rsa-private-key ec-private-key cms snmp-v1 snmp-v2c ldap ocsp-request ocsp-response tsp-request tsp-response any'

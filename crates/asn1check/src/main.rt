@@ -37,7 +37,7 @@ use asn1show_schema::Schema;
 use input::Task;
 use options::{Options, options_of};
 use program_io::{Input, ProgramError, arguments, explain};
-use schema_files::schema_of_files;
+use schema_files::schema_of_options;
 use std::process::ExitCode;
 use subject::{ModuleType, Subject};
 
@@ -74,12 +74,13 @@ fn take_values(rt: &HostRuntime, options: &Options<'_>, schema: &Schema, names: 
     take_files(rt, task)
 }
 
-// Checks values of a type of the modules that the options name, and returns the status.
-fn run_by_module(rt: &HostRuntime, options: &Options<'_>, type_name: &str) -> Result<u8, u8> {
-    let names = names(rt)?;
-    let schema = schema_of_files(rt, options.modules().unwrap_or(&[]), type_name)?;
+// Checks values of a type of modules by their tables, and returns the status.
+fn run_by_module(rt: &HostRuntime, options: &Options<'_>, schema: Schema) -> u8 {
     let checked = schema.without_selections();
-    Ok(take_values(rt, options, &checked, &names))
+    match names(rt) {
+        Ok(names) => take_values(rt, options, &checked, &names),
+        Err(status) => status,
+    }
 }
 
 // Checks messages, and returns the status.
@@ -97,11 +98,9 @@ fn run_by_kind(rt: &HostRuntime, options: &Options<'_>) -> u8 {
 
 // Checks what the options ask for, and returns the status.
 fn run(rt: &HostRuntime, options: &Options<'_>) -> u8 {
-    let Some(type_name) = options.type_name() else {
-        return run_by_kind(rt, options);
-    };
-    match run_by_module(rt, options, type_name) {
-        Ok(status) => status,
+    match schema_of_options(rt, options.matches()) {
+        Ok(Some(schema)) => run_by_module(rt, options, schema),
+        Ok(None) => run_by_kind(rt, options),
         Err(status) => status,
     }
 }

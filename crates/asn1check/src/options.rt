@@ -6,6 +6,7 @@ use asn1_input::InputFormat;
 use clap::error::ErrorKind;
 use clap::{Arg, ArgAction, ArgMatches, Command, Error};
 use program_io::VERSION;
+use schema_files::{ModuleHelp, push_module_args};
 use std::alloc::{AllocError, Global};
 use yasna::BERMode;
 
@@ -26,14 +27,9 @@ pub struct Options<'a> {
 }
 
 impl<'a> Options<'a> {
-    /// The files of the modules whose type is checked, if there are any.
-    pub fn modules(&self) -> Option<&[&'a str]> {
-        self.matches.get_strs("module")
-    }
-
-    /// The type of a module that is checked, if one is.
-    pub fn type_name(&self) -> Option<&'a str> {
-        self.matches.get_str("type")
+    /// The options as they are given, of which those of modules are read elsewhere.
+    pub fn matches(&self) -> &ArgMatches<'a> {
+        &self.matches
     }
 
     /// The encoding rules by which messages are read: those that are asked for, else those that they are sent in, or DER for a type of a module.
@@ -47,6 +43,11 @@ impl<'a> Options<'a> {
 }
 
 const ENCODE_HELP: &str = "Write each message in DER to standard output";
+
+const MODULE_HELP: ModuleHelp = ModuleHelp {
+    module: "Check values of a type of this module, in place of a KIND",
+    type_name: "The name of the type in the module",
+};
 
 const NO_KIND: &str = "a KIND is expected, or --module and --type";
 
@@ -100,25 +101,6 @@ fn kind_arg<'a>(alloc: Global) -> Arg<'a> {
         .help(KIND_HELP)
 }
 
-// The module and the type, of which neither is given alone.
-fn module_arg<'a>(alloc: Global) -> Result<Arg<'a>, AllocError> {
-    Arg::new(alloc, "module")
-        .long("module")
-        .value_name("FILE")
-        .action(ArgAction::Append)
-        .help("Check values of a type of this module, in place of a KIND")
-        .requires_arg("type")
-}
-
-fn type_arg<'a>(alloc: Global) -> Result<Arg<'a>, AllocError> {
-    Arg::new(alloc, "type")
-        .long("type")
-        .value_name("NAME")
-        .action(ArgAction::Set)
-        .help("The name of the type in the module")
-        .requires_arg("module")
-}
-
 fn files_arg<'a>(alloc: Global) -> Arg<'a> {
     Arg::new(alloc, "FILE")
         .action(ArgAction::Append)
@@ -138,8 +120,7 @@ fn all_args<'a>(alloc: Global) -> Result<Vec<Arg<'a>>, AllocError> {
         args.push(format_arg(alloc, format)?)?;
     }
     args.push(flag(alloc, "encode", ENCODE_HELP).conflicts_with("module")?)?;
-    args.push(module_arg(alloc)?)?;
-    args.push(type_arg(alloc)?)?;
+    push_module_args(alloc, &mut args, MODULE_HELP)?;
     args.push(kind_arg(alloc))?;
     args.push(files_arg(alloc))?;
     Ok(args)

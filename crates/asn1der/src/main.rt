@@ -28,7 +28,7 @@ use asn1show_schema::Schema;
 use input::written_of;
 use options::{Options, options_of};
 use program_io::{Input, arguments, explain, write_output};
-use schema_files::schema_of_files;
+use schema_files::schema_of_options;
 use std::process::ExitCode;
 
 // Converts an input, which messages name if it is one of several, and returns the status.
@@ -72,20 +72,11 @@ fn convert_inputs(rt: &HostRuntime, options: &Options<'_>, schema: Option<&Schem
     status
 }
 
-// Converts the inputs as values of a type of modules, and returns the greatest status.
-fn run_by_type(rt: &HostRuntime, options: &Options<'_>, type_name: &str) -> Result<u8, u8> {
-    let schema = schema_of_files(rt, options.modules().unwrap_or(&[]), type_name)?;
-    let schema = schema.without_selections();
-    Ok(convert_inputs(rt, options, Some(&schema)))
-}
-
 // Converts the inputs that the options name, and returns the greatest status.
 fn run(rt: &HostRuntime, options: &Options<'_>) -> u8 {
-    let Some(type_name) = options.type_name() else {
-        return convert_inputs(rt, options, None);
-    };
-    match run_by_type(rt, options, type_name) {
-        Ok(status) => status,
+    match schema_of_options(rt, options.matches()) {
+        Ok(Some(schema)) => convert_inputs(rt, options, Some(&schema.without_selections())),
+        Ok(None) => convert_inputs(rt, options, None),
         Err(status) => status,
     }
 }

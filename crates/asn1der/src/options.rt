@@ -3,6 +3,7 @@
 use asn1_input::InputFormat;
 use clap::{Arg, ArgAction, ArgMatches, Command, Error};
 use program_io::VERSION;
+use schema_files::{ModuleHelp, push_module_args};
 use std::alloc::{AllocError, Global};
 
 /// What the arguments ask for.
@@ -23,14 +24,9 @@ impl<'a> Options<'a> {
         self.matches.get_strs("FILE")
     }
 
-    /// The files of the modules of whose type the elements are, if there are any.
-    pub fn modules(&self) -> Option<&[&'a str]> {
-        self.matches.get_strs("module")
-    }
-
-    /// The type of the elements, if a module is given.
-    pub fn type_name(&self) -> Option<&'a str> {
-        self.matches.get_str("type")
+    /// The options as they are given, of which those of modules are read elsewhere.
+    pub fn matches(&self) -> &ArgMatches<'a> {
+        &self.matches
     }
 }
 
@@ -39,6 +35,11 @@ A file is bytes, hexadecimal digits or blocks of PEM.
 Without a module, values that equal a DEFAULT stay, though DER leaves them out.";
 
 const STRICT_HELP: &str = "Reject elements whose DER encoding depends on a schema";
+
+const MODULE_HELP: ModuleHelp = ModuleHelp {
+    module: "Take the elements for values of a type of this module",
+    type_name: "The name of the type in the module",
+};
 
 fn flag<'a>(alloc: Global, name: &'static str, help: &'static str) -> Arg<'a> {
     Arg::new(alloc, name)
@@ -55,25 +56,6 @@ fn pem_arg<'a>(alloc: Global) -> Arg<'a> {
         .help("Write a block of PEM with this label in place of the bytes")
 }
 
-// The module and the type, of which neither is given alone.
-fn module_arg<'a>(alloc: Global) -> Result<Arg<'a>, AllocError> {
-    Arg::new(alloc, "module")
-        .long("module")
-        .value_name("FILE")
-        .action(ArgAction::Append)
-        .help("Take the elements for values of a type of this module")
-        .requires_arg("type")
-}
-
-fn type_arg<'a>(alloc: Global) -> Result<Arg<'a>, AllocError> {
-    Arg::new(alloc, "type")
-        .long("type")
-        .value_name("NAME")
-        .action(ArgAction::Set)
-        .help("The name of the type in the module")
-        .requires_arg("module")
-}
-
 fn files_arg<'a>(alloc: Global) -> Arg<'a> {
     Arg::new(alloc, "FILE")
         .action(ArgAction::Append)
@@ -87,8 +69,7 @@ fn all_args<'a>(alloc: Global) -> Result<Vec<Arg<'a>>, AllocError> {
     args.push(flag(alloc, "hex", "Each file is hexadecimal text").conflicts_with("bytes")?)?;
     args.push(flag(alloc, "bytes", "Each file is the bytes themselves"))?;
     args.push(pem_arg(alloc))?;
-    args.push(module_arg(alloc)?)?;
-    args.push(type_arg(alloc)?)?;
+    push_module_args(alloc, &mut args, MODULE_HELP)?;
     args.push(files_arg(alloc))?;
     Ok(args)
 }

@@ -1,6 +1,6 @@
 //! `asn1show` lists the elements of ASN.1 bytes, a line an element.
 //!
-//! `options` has those of the command line, and `modules` the types that name the elements. `asn1show_lines` makes the lines, and `program_io` has the input and the standard streams.
+//! `options` has those of the command line, and `schema_files` the types that name the elements. `asn1show_lines` makes the lines, and `program_io` has the input and the standard streams.
 #![tactic(auto)]
 
 ghost use Rattle.std.specs.Prelude.{◌≡◌, ◌↔◌, ◌<◌, ◌&&◌, IsTrue, length, not, if◌then◌else◌};
@@ -8,14 +8,13 @@ ghost use Rattle.asn1show_printer.specs.declared.value.Layout.TheVariants.{Html}
 ghost use Rattle.asn1show_printer.specs.Conformance.{accepts};
 ghost use Rattle.asn1show_walk.specs.Errors.{IsExternal};
 
-mod modules;
 mod options;
 
 use asn1show_lines::{Conformance, Layout, Output, Schema, Selection, View};
 use asn1show_walk::WalkError;
-use modules::schema;
 use options::{Options, options_of};
 use program_io::{Input, ProgramError, arguments, explain, report};
+use schema_files::schema_of_options;
 use std::io::{BufWriter, Write};
 use std::process::ExitCode;
 
@@ -172,7 +171,7 @@ fn run_inputs(rt: &HostRuntime, options: &Options<'_>, schema: Option<&Schema>) 
 
 // Reads the modules and the inputs that the options name, lists the inputs, and returns the greatest status.
 fn run(rt: &HostRuntime, options: &Options<'_>) -> u8 {
-    match schema(rt, options) {
+    match schema_of_options(rt, options.matches()) {
         Ok(schema) => run_inputs(rt, options, schema.as_ref()),
         Err(status) => status,
     }

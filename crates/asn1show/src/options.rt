@@ -3,6 +3,7 @@
 use asn1show_lines::{Extent, InputFormat, Layout, Numbers, Part, Selection, View};
 use clap::{Arg, ArgAction, ArgMatches, Command, Error};
 use program_io::VERSION;
+use schema_files::{ModuleHelp, push_module_args};
 use std::alloc::{AllocError, Global};
 use yasna_base::mode::BERMode;
 
@@ -24,14 +25,9 @@ impl<'a> Options<'a> {
         self.matches.get_strs("FILE")
     }
 
-    /// The files of modules that name the elements, if there are any.
-    pub fn modules(&self) -> Option<&[&'a str]> {
-        self.matches.get_strs("module")
-    }
-
-    /// The type of the input, if modules name its elements.
-    pub fn type_name(&self) -> Option<&'a str> {
-        self.matches.get_str("type")
+    /// The options as they are given, of which those of modules are read elsewhere.
+    pub fn matches(&self) -> &ArgMatches<'a> {
+        &self.matches
     }
 }
 
@@ -42,6 +38,11 @@ const DEPTH_HELP: &str = "Show no elements that are more than N levels deep";
 const AT_HELP: &str = "Show only the element at offset N, with what is in it";
 
 const EXTRACT_HELP: &str = "Write the bytes of the element at offset N";
+
+const MODULE_HELP: ModuleHelp = ModuleHelp {
+    module: "Name the elements by the types of this module",
+    type_name: "The type of the input in the module",
+};
 
 static MODES: [&str; 3] = ["ber", "der", "cer"];
 
@@ -178,23 +179,6 @@ fn check_arg<'a>(alloc: Global) -> Arg<'a> {
     .value_parser(MODES.as_slice())
 }
 
-// The module and the type, of which neither is given alone.
-fn module_arg<'a>(alloc: Global) -> Result<Arg<'a>, AllocError> {
-    Arg::new(alloc, "module")
-        .long("module")
-        .value_name("FILE")
-        .action(ArgAction::Append)
-        .help("Name the elements by the types of this module")
-        .requires_arg("type")
-}
-
-fn type_arg<'a>(alloc: Global) -> Result<Arg<'a>, AllocError> {
-    value_arg(alloc, "type", "The type of the input in the module")
-        .long("type")
-        .value_name("NAME")
-        .requires_arg("module")
-}
-
 fn files_arg<'a>(alloc: Global) -> Arg<'a> {
     Arg::new(alloc, "FILE")
         .action(ArgAction::Append)
@@ -218,8 +202,7 @@ fn push_values(alloc: Global, args: &mut Vec<Arg<'_>>) -> Result<(), AllocError>
     args.push(dump_arg(alloc, &["extract", "json", "html"])?)?;
     args.push(decimal_arg(alloc))?;
     args.push(width_arg(alloc))?;
-    args.push(module_arg(alloc)?)?;
-    args.push(type_arg(alloc)?)?;
+    push_module_args(alloc, args, MODULE_HELP)?;
     Ok(args.push(files_arg(alloc))?)
 }
 
