@@ -1,6 +1,6 @@
 #!/bin/sh
 # What the documents show. Each block of Rust or of antt in them, and in the comments on public items, is in one of the proved crates
-# tests_yasna, tests_notation, examples_proved, x509 and ldap, line for line, but for its indentation as a whole. A module that a
+# tests_yasna, tests_messages, tests_notation, examples_proved, x509 and ldap, line for line, but for its indentation as a whole. A module that a
 # document shows is the document's blocks, one after the other, and nothing else: so a reader who copies them has all that is needed. Each
 # block of GUIDE.md and NOTATION.md is a module. A page CALLING.md also quotes contracts and definitions, which are in the sources, line for line. Each mutant that
 # PROMISES.md names is an edit that the gate or ci/mutants.sh tries.
@@ -153,7 +153,8 @@ examples=crates/examples_proved/src
 types=crates/x509/src
 filters=crates/ldap/src
 more=crates/tests_notation/src/examples
-files=$(find "$guide" "$examples" "$types" "$filters" "$more" crates/examples_proved/proofs -name '*.rt' -o -name '*.antt')
+messages=crates/tests_messages/src
+files=$(find "$guide" "$examples" "$types" "$filters" "$more" "$messages/rewritten.rt" crates/examples_proved/proofs -name '*.rt' -o -name '*.antt')
 for page in README.md docs/GUIDE.md docs/NOTATION.md docs/IMPLEMENTING.md \
     crates/yasna/src/lib.rt crates/yasna/src/shapes.rt \
     crates/yasna_reader/src/state.rt crates/yasna_reader/src/set.rt \
@@ -163,10 +164,10 @@ for page in README.md docs/GUIDE.md docs/NOTATION.md docs/IMPLEMENTING.md \
 done
 
 is_whole README.md "$guide/first.rt"
-set -- $(find "$guide" -name '*.rt' ! -name first.rt ! -name messages.rt | sort) "$examples/strings.rt" "$examples/exact.rt"
+set -- $(find "$guide" -name '*.rt' ! -name first.rt | sort) "$examples/strings.rt" "$examples/exact.rt"
 is_whole docs/GUIDE.md "$@"
 rust_blocks docs/GUIDE.md $#
-set -- "$guide/messages.rt" "$types/time.rt" "$types/extension.rt" "$types/extensions.rt" "$more/header.rt" "$filters/filter.rt" "$filters/filter_notation.rt"
+set -- "$messages/rewritten.rt" "$types/time.rt" "$types/extension.rt" "$types/extensions.rt" "$more/header.rt" "$filters/filter.rt" "$filters/filter_notation.rt"
 is_whole docs/NOTATION.md "$@"
 rust_blocks docs/NOTATION.md $#
 is_whole docs/IMPLEMENTING.md "$examples/by_tuple.rt" "$examples/by_closure.rt"

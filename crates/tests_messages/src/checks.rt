@@ -138,7 +138,8 @@ fn is_cer_encoding<T: BERDecodable + DEREncodable + DERExact>(
     is_written_as(alloc, &value, BERMode::Cer, bytes)
 }
 
-fn rejects<T: Drop>(outcome: ASN1Result<T>) -> bool {
+/// Whether the outcome is a rejection as `Invalid`.
+pub fn rejects<T: Drop>(outcome: ASN1Result<T>) -> bool {
     match outcome {
         Ok(_) => false,
         Err(error) => matches!(error.kind(), ASN1ErrorKind::Invalid),

@@ -16,6 +16,7 @@
 //! | `ocsp_messages` | requests and responses of `ocsp` |
 //! | `parts` | a SEQUENCE of parts that are pairs |
 //! | `prepended` | bit strings, numbers and a type without bodies of its own, prepended to a buffer |
+//! | `rewritten` | no test: it holds the piece of code of docs/NOTATION.md that reads and writes a message as a whole |
 //! | `rsa_and_ec_keys` | keys of `rsa_keys` and `ec_keys`, and requests of `pkcs10` |
 //! | `snmp_messages` | messages of `snmp` |
 //! | `texts` | a type of texts, made for these tests |
@@ -50,6 +51,8 @@ mod ocsp_messages;
 mod parts;
 #[cfg(test)]
 mod prepended;
+#[cfg(test)]
+mod rewritten;
 #[cfg(test)]
 mod rsa_and_ec_keys;
 #[cfg(test)]

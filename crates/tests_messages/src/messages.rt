@@ -1,10 +1,12 @@
 //! Messages that are types made of types: a DER encoding comes back as it was, and what is none is rejected.
 
-use crate::checks::{Claim, finds_none, holds_of};
+use crate::checks::{Claim, bytes_of, finds_none, gives, holds_of, rejects};
 use crate::kinds::{Kind, Row, first_failing};
+use crate::rewritten::{extension_from_ber, rewritten_extension};
 use snmp::{ApplicationSyntax, SimpleSyntax};
 use std::alloc::Global;
 use x509::{AlgorithmIdentifier, Attribute, Extensions, Name, SubjectPublicKeyInfo, Validity};
+use yasna::ASN1Result;
 use yasna::BERMode::Ber;
 
 /// A part of a message.
@@ -185,4 +187,40 @@ pub fn is_part(alloc: Global, part: Part, bytes: &[u8], claim: Claim) -> bool {
 #[test]
 fn parts_and_values_round_trip_or_are_rejected(rt: HostRuntime) {
     finds_none(&rt, first_failing(rt.alloc(), &ROWS));
+}
+
+// A name, an extension in BER, whether it is critical, and whether DER takes it.
+static EXTENSIONS: [(&str, &str, bool, bool); 2] = [
+    ("an extension", "300c0603551d130101ff04023000", true, true),
+    (
+        "a default that is written out",
+        "300c0603551d1301010004023000",
+        false,
+        false,
+    ),
+];
+
+// Whether BER reads an extension that is critical as the row says, with an empty SEQUENCE, and it is rewritten in DER or rejected.
+fn is_extension(alloc: Global, text: &str, is_critical: bool, is_der: bool) -> ASN1Result<bool> {
+    let bytes = bytes_of(alloc, text)?;
+    let extension = extension_from_ber(alloc, &bytes)?;
+    let outcome = rewritten_extension(alloc, &bytes);
+    let is_expected = if is_der {
+        gives(outcome, &bytes)
+    } else {
+        rejects(outcome)
+    };
+    Ok(
+        is_expected
+            && extension.critical == is_critical
+            && extension.extn_value.as_slice() == [0x30, 0x00].as_slice(),
+    )
+}
+
+#[test]
+fn extensions_are_rewritten(rt: HostRuntime) {
+    for row in &EXTENSIONS {
+        let is_so = is_extension(rt.alloc(), row.1, row.2, row.3);
+        assert!(rt; matches!(is_so, Ok(true)), "{:?}", row.0);
+    }
 }

@@ -14,7 +14,6 @@ pub mod first;
 pub mod implicit;
 pub mod lists;
 pub mod located;
-pub mod messages;
 pub mod numbers;
 pub mod optional;
 pub mod own_errors;

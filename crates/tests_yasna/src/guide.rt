@@ -10,7 +10,6 @@ use crate::examples::first::{decode_report, encode_report};
 use crate::examples::implicit::{read_accuracy, write_accuracy};
 use crate::examples::lists::{highest, read_names, write_names};
 use crate::examples::located::table_located;
-use crate::examples::messages::{extension_from_ber, rewritten_extension};
 use crate::examples::numbers::{
     Status, read_key, read_status, write_key, write_signature, write_status,
 };
@@ -44,8 +43,6 @@ enum Whole {
     /// The only row of a table is written.
     Table,
     Flag,
-    /// In DER it is written. It holds an empty SEQUENCE, and is critical or not.
-    Extension(bool),
     NumberOrZero(i64),
     /// The entries of these places are written.
     Stored(&'static [usize]),
@@ -96,21 +93,6 @@ impl Whole {
     }
 }
 
-fn extension_rewritten(
-    alloc: Global,
-    mode: BERMode,
-    bytes: &[u8],
-    is_critical: bool,
-) -> ASN1Result<Vec<u8>> {
-    let extension = extension_from_ber(alloc, bytes)?;
-    expected(extension.critical == is_critical)?;
-    expected(extension.extn_value.as_slice() == [0x30, 0x00].as_slice())?;
-    match mode {
-        BERMode::Der => rewritten_extension(alloc, bytes),
-        _ => bytes_if(alloc, true, bytes),
-    }
-}
-
 impl Piece for Whole {
     fn rewritten(self, alloc: Global, mode: BERMode, bytes: &[u8]) -> ASN1Result<Vec<u8>> {
         match self {
@@ -136,7 +118,6 @@ impl Piece for Whole {
                 }
             }
             Whole::Flag => reencoded::<(String, bool)>(alloc, bytes),
-            Whole::Extension(is_critical) => extension_rewritten(alloc, mode, bytes, is_critical),
             _ => self.of_store(alloc, bytes),
         }
     }
@@ -148,13 +129,8 @@ const INDEFINITE_POINT: &str = "308002010A0202FF7F0000";
 
 const ROW: &str = "30060C01610101FF";
 
-const EXTENSION: &str = "300C0603551D130101FF04023000";
-
-// One that isn't critical may say so in BER.
-const SAYS_FALSE: &str = "300C0603551D1301010004023000";
-
-// Structs, tables and extensions.
-static VALUES: [Row<Whole>; 12] = [
+// Structs and tables.
+static VALUES: [Row<Whole>; 8] = [
     (
         "a report of one reading",
         Whole::Report(None),
@@ -197,28 +173,6 @@ static VALUES: [Row<Whole>; 12] = [
         Whole::Flag,
         Der,
         "30060C0161010101",
-        Rejected(Invalid),
-    ),
-    ("an extension", Whole::Extension(true), Der, EXTENSION, Same),
-    (
-        "an extension is read in BER",
-        Whole::Extension(true),
-        Ber,
-        EXTENSION,
-        Same,
-    ),
-    (
-        "BER reads a default that is written out",
-        Whole::Extension(false),
-        Ber,
-        SAYS_FALSE,
-        Same,
-    ),
-    (
-        "DER rejects a default that is written out",
-        Whole::Extension(false),
-        Der,
-        SAYS_FALSE,
         Rejected(Invalid),
     ),
 ];
@@ -280,7 +234,7 @@ static ERRORS: [Row<Whole>; 9] = [
 ];
 
 #[test]
-fn structs_tables_and_extensions_round_trip(rt: HostRuntime) {
+fn structs_and_tables_round_trip(rt: HostRuntime) {
     finds_none(&rt, first_other(rt.alloc(), &VALUES));
 }
 
