@@ -5,7 +5,9 @@ ghost use Rattle.asn1_source.specs.Names.{is_used, octets_of};
 
 use crate::terms::{TypeName, is_canonical};
 use crate::text::Text;
-use crate::words::{is_reserved, is_specs_name, is_taken, put_camel, put_snake};
+use crate::words::{
+    is_reserved, is_reserved_in_fields, is_specs_name, is_taken, put_camel, put_snake,
+};
 use asn1_types::model::{Alternative, Body, Definition, Part};
 use std::alloc::{AllocError, Global};
 
@@ -352,7 +354,7 @@ pub fn keep(names: &mut Vec<Vec<u8>>, alloc: Global, text: Text) -> Result<Vec<u
 fn field_text(alloc: Global, name: &[u8]) -> Text {
     let mut text = Text::new(alloc);
     put_snake(name, &mut text);
-    if !is_reserved(text.as_slice()) {
+    if !is_reserved_in_fields(text.as_slice()) {
         return text;
     }
     let mut other = Text::new(alloc);

@@ -264,6 +264,11 @@ pub fn is_reserved(word: &[u8]) -> bool {
     is_among(RESERVED.as_slice(), word) || is_among(RESERVED_IN_CLAUSES.as_slice(), word)
 }
 
+/// Whether no field has the name. `result` is what a function returns, so none of its parameters is called that.
+pub fn is_reserved_in_fields(word: &[u8]) -> bool {
+    is_reserved(word) || word == b"result".as_slice()
+}
+
 /// Whether the sources themselves use the name of a type.
 pub fn is_taken(name: &[u8]) -> bool {
     is_among(TAKEN.as_slice(), name)

@@ -29,7 +29,7 @@ static CHOICES: [Row; 2] = [
 ];
 
 // Names that others have: that of what another type has in a file of its own, and those of specs.
-static NAMES: [Row; 8] = [
+static NAMES: [Row; 9] = [
     (
         b"M DEFINITIONS AUTOMATIC TAGS ::= BEGIN Foo ::= SEQUENCE { a NULL, b NULL, c NULL, d NULL, e NULL, f NULL, g NULL } Foo-Parts2 ::= SEQUENCE { a NULL } END",
         "src/foo_parts2_type.rt",
@@ -69,6 +69,11 @@ static NAMES: [Row; 8] = [
         b"M DEFINITIONS ::= BEGIN Package ::= SEQUENCE { module NULL } END",
         "src/package_type.rt",
         "pub struct Package {\n    pub the_module: (),\n}\n",
+    ),
+    (
+        b"M DEFINITIONS ::= BEGIN Answer ::= SEQUENCE { result NULL } END",
+        "src/answer.rt",
+        "pub struct Answer {\n    pub the_result: (),\n}\n",
     ),
 ];
 
