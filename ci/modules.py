@@ -87,6 +87,9 @@ DEFAULTS = """Defaults DEFINITIONS IMPLICIT TAGS ::= BEGIN
 id-box OBJECT IDENTIFIER ::= { 2 999 1 }
 Label ::= SEQUENCE { kind OBJECT IDENTIFIER DEFAULT id-box, key [0] OCTET STRING DEFAULT '0102'H, text UTF8String DEFAULT "box" }
 Open ::= SEQUENCE { size INTEGER, text UTF8String DEFAULT "box", ... }
+Rows ::= SEQUENCE OF INTEGER
+Lists ::= SEQUENCE { rows Rows DEFAULT {}, texts [0] SET SIZE (0..9) OF UTF8String DEFAULT {}, flags [1] BIT STRING { a(0), b(1) } DEFAULT { b },
+    mask [2] BIT STRING DEFAULT '0110'B }
 END
 """
 # The record of X.690, A.1, and SETs of each kind of part: those of AUTOMATIC TAGS, of COMPONENTS OF, within another type, and a CHOICE.
@@ -122,6 +125,7 @@ BADGE = "Badge: accepts more\n    the components of a SET with `...` aren't read
 CLOSED = "Shape: rejects additions, canonical\nBox: exact, canonical\n"
 HEAD = "Head: rejects additions, canonical\n"
 LABEL = "Label: exact, canonical\n"
+LISTS = "Rows: exact, canonical\nLists: exact\n"
 OPEN = "Open: accepts more\n    `text`: a part with a default may be encoded though it is the default\n"
 SETS_LISTED = """Name: exact, canonical
 ChildInformation: exact, canonical
@@ -277,7 +281,7 @@ def ends(folder):
     yield "SETs", run(folder, "--list", "sets.asn1"), (0, SETS_LISTED, "")
     yield "a SET whose parts are tagged automatically", run(folder, "--list", "--strict", "automatic.asn1"), (0, REPORT_LISTED, "")
     yield "additions with --strict", run(folder, "--list", "--strict", "--type", "Box", "--type", "Head", "wide.asn1"), (0, f"{CLOSED}{HEAD}", "")
-    yield "defaults", run(folder, "--list", "--strict", "defaults.asn1"), (1, f"{LABEL}{OPEN}", IS_UNTESTED)
+    yield "defaults", run(folder, "--list", "--strict", "defaults.asn1"), (1, f"{LABEL}{OPEN}{LISTS}", IS_UNTESTED)
     yield "what isn't ASN.1", run(folder, "--list", "malformed.asn1"), (1, "", IS_MALFORMED)
     yield "a name that isn't defined", run(folder, "--list", "unknown.asn1"), (1, KNOWN, IS_UNKNOWN)
     yield "names that aren't defined", run(folder, "--list", "incomplete.asn1"), (1, "", f"{IS_INCOMPLETE}{IS_TAGGED}")

@@ -99,6 +99,47 @@ static TEXT: DefaultTexts = DefaultTexts {
     same: "",
 };
 
+static BITS: DefaultTexts = DefaultTexts {
+    name: "TestedBits<&>",
+    test: "(λ v. is_bit_string ⟦<& as BitsValue>⟧.bits (bits_in v))",
+    value: "(one_bits ⟦<& as BitsValue>⟧.bits)",
+    detects: "",
+    same: "",
+};
+
+static EMPTY_SEQUENCE: DefaultTexts = DefaultTexts {
+    name: "EmptyList",
+    test: "(λ v. is_empty_list v.items)",
+    value: "(one_empty_sequence _ (λ v. v.items))",
+    detects: "",
+    same: "",
+};
+
+static EMPTY_SET: DefaultTexts = DefaultTexts {
+    name: "EmptyList",
+    test: "(λ v. is_empty_list v.items)",
+    value: "(one_empty_set _ (λ v. v.items))",
+    detects: "",
+    same: "",
+};
+
+// Those of lists with a name, which are structs.
+static EMPTY_NAMED_SEQUENCE: DefaultTexts = DefaultTexts {
+    name: "&",
+    test: "(λ v. is_empty_list v.items.items)",
+    value: "(one_empty_sequence _ (λ v. v.items.items))",
+    detects: "",
+    same: "",
+};
+
+static EMPTY_NAMED_SET: DefaultTexts = DefaultTexts {
+    name: "&",
+    test: "(λ v. is_empty_list v.items.items)",
+    value: "(one_empty_set _ (λ v. v.items.items))",
+    detects: "",
+    same: "",
+};
+
 /// Whether a part has a default that is tested, since to make it takes memory.
 pub fn has_tested_default(part: &Part<'_>) -> bool {
     match &part.presence {
@@ -115,6 +156,9 @@ fn is_tested(value: &DefaultValue<'_>) -> bool {
         DefaultValue::Enumerated(_, _) => false,
         DefaultValue::ObjectIdentifier(_) => true,
         DefaultValue::Octets(_) => true,
+        DefaultValue::Bits(_, _) => true,
+        DefaultValue::EmptySequenceOf => true,
+        DefaultValue::EmptySetOf => true,
         DefaultValue::Text(_) => true,
     }
 }
@@ -144,6 +188,14 @@ fn is_plain_boolean(notation: &Notation) -> bool {
     }
 }
 
+// Whether a notation within tags is a type that has a name.
+fn has_name(notation: &Notation) -> bool {
+    match untagged(notation) {
+        Notation::Defined(_) => true,
+        _ => false,
+    }
+}
+
 /// How the default of a notation is written. `is_under`: a tag is written around the notation.
 pub fn default_texts(
     notation: &Notation,
@@ -159,6 +211,11 @@ pub fn default_texts(
         DefaultValue::Enumerated(_, _) => &ITEM,
         DefaultValue::ObjectIdentifier(_) => &IDENTIFIER,
         DefaultValue::Octets(_) => &OCTETS,
+        DefaultValue::Bits(_, _) => &BITS,
+        DefaultValue::EmptySequenceOf if has_name(notation) => &EMPTY_NAMED_SEQUENCE,
+        DefaultValue::EmptySequenceOf => &EMPTY_SEQUENCE,
+        DefaultValue::EmptySetOf if has_name(notation) => &EMPTY_NAMED_SET,
+        DefaultValue::EmptySetOf => &EMPTY_SET,
         DefaultValue::Text(_) => &TEXT,
     }
 }

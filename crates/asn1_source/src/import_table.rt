@@ -35,6 +35,7 @@ Rattle.yasna_notation_constraints.specs.OrDefault: or_default_laws or_default_wr
 Rattle.yasna_notation_constraints.specs.Sizes: bit_sizes from_on
 Rattle.yasna_notation_constraints.specs.TestedDefaults: one_list one_seen
 Rattle.yasna_notation_types.specs.AnyUnder: any_under_lawful
+Rattle.yasna_notation_types.specs.EmptyLists: is_empty_list one_empty_sequence one_empty_set
 Rattle.yasna_notation_types.specs.Making: explicit_application explicit_application_written explicit_private explicit_private_written
 Rattle.yasna_notation_types.specs.Making: in_private in_universal under_private under_universal
 Rattle.yasna_notation_types.specs.Named: named_lawful named_written
@@ -42,6 +43,7 @@ Rattle.yasna_notation_types.specs.OpenChoice: any_lawful open_lawful
 Rattle.yasna_notation_types.specs.Others: other_may others_laws others_within possible possible_default possible_default_begins possible_may
 Rattle.yasna_notation_types.specs.Others: possible_within
 Rattle.yasna_notation_types.specs.Rest: rest_laws
+Rattle.yasna_notation_types.specs.TestedBits: is_bit_string one_bits
 Rattle.yasna_notation_types.specs.SetParts: no_set_parts set_lawful set_option set_part set_with_default set_writes
 Rattle.yasna_notation.specs.contracts.simple.BoolNotation.TheImpl.Laws: lawful-law=flag_law non_empty-law=flag_non_empty
 Rattle.yasna_notation.specs.contracts.canonical.BoolCanonicalNotation.TheImpl.Laws: written-law=flag_written
@@ -95,9 +97,10 @@ yasna_notation: Alternatives Application AtMost BigInteger BitString Bounded Can
 yasna_notation: Enumerated Exactly Explicit False FromTo Ia5String Implicit Last Message NotEmpty Notation NumericString Optional
 yasna_notation: PartsBy>Parts PartsBy PrintableString Represents Sequence SequenceOf SetOf VisibleString read_as
 yasna_notation_constraints: Checked CheckedBy Identifier=TestedIdentifier IdentifierValue IntegerFrom IntegerFromTo IntegerUpTo Natural
-yasna_notation_constraints: Octets=TestedOctets OctetsValue OrDefault Signed SizeFrom SizeFromTo SizeIs Text=TestedText TextValue True Unset
+yasna_notation_constraints: Octets=TestedOctets OctetsValue OrDefault Signed SizeFrom SizeFromTo SizeIs TestedDefault Text=TestedText TextValue True Unset
 yasna_notation_constraints: accepts_fields
-yasna_notation_types: AnyUnder BmpString Named NamedBits Numbered OpenChoice Others Possible PossibleDefault Private Rest Set SetPart SetParts Universal
+yasna_notation_types: AnyUnder Bits=TestedBits BitsValue BmpString EmptyList Named NamedBits Numbered OpenChoice Others Possible PossibleDefault Private
+yasna_notation_types: Rest Set SetPart SetParts Universal has_no_items
 yasna_notation_types: explicit_fields_len implicit_fields_len prepend_explicit_fields prepend_implicit_fields read_part write_explicit_fields
 yasna_notation_types: write_implicit_fields
 ";

@@ -139,7 +139,7 @@ pub fn set_default_types(
             item.fill(ITEM_CLAUSES, &mut clauses);
         }
     }
-    if put_tested_types(fields, &mut types) {
+    if put_tested_types(fields, source.names, &mut types) {
         clauses.say(LIST_CLAUSES);
     }
     fragments.set(b'd', types);

@@ -334,8 +334,37 @@ fn may_be_default(part: &Part<'_>, sample: &[u8]) -> bool {
         DefaultValue::ObjectIdentifier(arcs) => arcs.as_slice() == SAMPLE_ARCS.as_slice(),
         DefaultValue::Octets(octets) => sample.ends_with(octets.as_slice()),
         DefaultValue::Text(text) => sample.ends_with(*text),
+        DefaultValue::Bits(octets, count) => ends_in_bits(sample, octets.as_slice(), *count),
+        DefaultValue::EmptySequenceOf => is_without_contents(sample),
+        DefaultValue::EmptySetOf => is_without_contents(sample),
         _ => true,
     }
+}
+
+// Whether a sample ends in a BIT STRING of so many bits in these octets, whatever its tag is.
+fn ends_in_bits(sample: &[u8], octets: &[u8], count: usize) -> bool {
+    let Some(before) = sample.strip_suffix(octets) else {
+        return false;
+    };
+    let unused = (8 - (count & 7)) & 7;
+    match before {
+        [.., size, last] => {
+            usize::from(*last) == unused && usize::from(*size) == octets.len().saturating_add(1)
+        }
+        _ => false,
+    }
+}
+
+// Whether a sample is an element without contents, or has only such a one in it.
+fn is_without_contents(sample: &[u8]) -> bool {
+    let mut rest = sample;
+    for _ in 0..sample.len() {
+        match rest {
+            [_, size, contents @ ..] if usize::from(*size) == contents.len() => rest = contents,
+            _ => return rest.is_empty(),
+        }
+    }
+    rest.is_empty()
 }
 
 // A tag of the class UNIVERSAL.

@@ -446,6 +446,40 @@ impl TextValue for @X {
 }
 ";
 
+/// That of a BIT STRING, with how many bits there are as `@c`.
+pub static BITS_DEFAULT: &str = "
+/// The default of `@f`.
+pub struct @X;
+
+impl BitsValue for @X {
+    ghost bits = { record { bytes = @n; count = @c } };
+
+    fn octets() -> &'static [u8] {
+        &[@r]
+    }
+
+    fn count() -> usize {
+        @c
+    }
+}
+";
+
+/// The default of a list with the name `@B`, if it is an empty one. `@n` is its word in the name of the term.
+pub static EMPTY_DEFAULT: &str = "
+/// The default of `@f`.
+pub struct @X;
+
+impl TestedDefault<@B> for @X {
+    ghost is = { λ v. is_empty_list v.items.items };
+
+    fn is_default(value: &@B) -> bool {
+        has_no_items(value.items.as_slice())
+    }
+
+    ghost one = { one_empty_@n _ (λ v. v.items.items) };
+}
+";
+
 /// What the source of such a default brings in.
 pub static LIST_CLAUSES: &str = "ghost use Rattle.std.specs.Prelude.{◌∷◌, []};\n";
 

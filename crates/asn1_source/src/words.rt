@@ -37,7 +37,7 @@ static RESERVED_IN_CLAUSES: [&str; 18] = [
 ];
 
 // Names that the sources themselves use.
-static TAKEN: [&str; 120] = [
+static TAKEN: [&str; 124] = [
     "ASN1Result",
     "Alternatives",
     "Any",
@@ -50,6 +50,7 @@ static TAKEN: [&str; 120] = [
     "BERReaderSet",
     "BigInteger",
     "BitString",
+    "BitsValue",
     "BmpString",
     "Bound",
     "Bounded",
@@ -71,6 +72,7 @@ static TAKEN: [&str; 120] = [
     "Drop",
     "Each",
     "Either",
+    "EmptyList",
     "Encoded",
     "Enumerated",
     "Eq",
@@ -146,6 +148,8 @@ static TAKEN: [&str; 120] = [
     "Tag",
     "TagClass",
     "TaggedDerValue",
+    "TestedBits",
+    "TestedDefault",
     "TestedIdentifier",
     "TestedOctets",
     "TestedText",

@@ -1,14 +1,15 @@
 //! The values after DEFAULT (X.680, 24.10).
 
+use crate::bits::{named_bits, plain_bits};
 use crate::constraints::{Names, named_number};
 use crate::cores::{TypeAt, braces_of};
-use crate::model::{Body, DefaultValue, Integer, Notation, TextKind};
+use crate::digits::{Bits, bits_of_item};
+use crate::model::{Body, DefaultValue, Enumeration, Integer, Notation, TextKind};
 use crate::problem::Stop;
 use crate::resolver::Resolver;
 use crate::tokens::is;
-use crate::values::{identifier_value, integer_value, item_of_value};
+use crate::values::{identifier_value, integer_value, item_of_value, value_through_names};
 use asn1_syntax::{Token, TokenKind};
-use std::alloc::{AllocError, Global};
 
 // A notation without the tags around it.
 fn without_tags(notation: &Notation) -> &Notation {
@@ -40,9 +41,8 @@ fn number<'a>(r: &Resolver<'a>, at: TypeAt<'a>, value: &'a [Token<'a>]) -> Optio
 }
 
 // The item of an ENUMERATED that a value names.
-fn item<'a>(r: &Resolver<'a>, index: usize, name: Token<'a>) -> Option<DefaultValue<'a>> {
-    let definition = r.definitions.get(index)?;
-    let Body::Enumerated(enumeration) = &definition.body else {
+fn item<'a>(enumeration: &Enumeration<'a>, value: &'a [Token<'a>]) -> Option<DefaultValue<'a>> {
+    let [name] = value else {
         return None;
     };
     let found = enumeration
@@ -50,6 +50,46 @@ fn item<'a>(r: &Resolver<'a>, index: usize, name: Token<'a>) -> Option<DefaultVa
         .iter()
         .find(|item| item.name == name.text)?;
     Some(DefaultValue::Enumerated(found.name, found.number))
+}
+
+// Whether a value is empty braces.
+fn is_empty<'a>(r: &Resolver<'a>, module: usize, value: &'a [Token<'a>]) -> bool {
+    match value_through_names(r.scope, module, value) {
+        Some(named) => {
+            matches!(named.value, [open, close] if is(*open, b"{") && is(*close, b"}"))
+        }
+        None => false,
+    }
+}
+
+// The value of a list, if it is empty.
+fn empty_list<'a>(
+    r: &Resolver<'a>,
+    module: usize,
+    notation: &Notation,
+    value: &'a [Token<'a>],
+) -> Option<DefaultValue<'a>> {
+    match notation {
+        Notation::SequenceOf(_, _) if is_empty(r, module, value) => {
+            Some(DefaultValue::EmptySequenceOf)
+        }
+        Notation::SetOf(_, _) if is_empty(r, module, value) => Some(DefaultValue::EmptySetOf),
+        _ => None,
+    }
+}
+
+// The value of a type that has a definition: of an ENUMERATED, or of a list with a name.
+fn defined<'a>(
+    r: &Resolver<'a>,
+    module: usize,
+    index: usize,
+    value: &'a [Token<'a>],
+) -> Option<DefaultValue<'a>> {
+    match &r.definitions.get(index)?.body {
+        Body::Enumerated(enumeration) => item(enumeration, value),
+        Body::Value(notation) => empty_list(r, module, without_tags(notation), value),
+        _ => None,
+    }
 }
 
 // The value of a BOOLEAN.
@@ -74,48 +114,7 @@ fn identifier<'a>(
     }
 }
 
-// The number that a digit is.
-fn digit(c: u8) -> Option<u16> {
-    match c {
-        b'0'..=b'9' => Some(u16::from(c - b'0')),
-        b'A'..=b'F' => Some(u16::from(c - b'A') + 10),
-        _ => None,
-    }
-}
-
-// The octets of digits of a base, `whole` of which make one, if they are whole octets. White space may be between them.
-fn octets_of_digits(
-    alloc: Global,
-    digits: &[u8],
-    base: u16,
-    whole: usize,
-) -> Result<Option<Vec<u8>>, AllocError> {
-    let mut octets = Vec::new(alloc);
-    let mut number = 0u16;
-    let mut count = 0usize;
-    for c in digits {
-        let Some(next) = digit(*c) else { continue };
-        number = number.saturating_mul(base).saturating_add(next);
-        count = count.saturating_add(1);
-        if count == whole {
-            octets.push((number & 255) as u8)?;
-            number = 0;
-            count = 0;
-        }
-    }
-    Ok(if count == 0 { Some(octets) } else { None })
-}
-
-// The octets of a binary or hexadecimal string (X.680, 12.10 and 12.12), if they are whole.
-fn octets_of_item(alloc: Global, item: Token<'_>) -> Result<Option<Vec<u8>>, AllocError> {
-    match (item.kind, item.text) {
-        (TokenKind::BString, [_, digits @ .., _, _]) => octets_of_digits(alloc, digits, 2, 8),
-        (TokenKind::HString, [_, digits @ .., _, _]) => octets_of_digits(alloc, digits, 16, 2),
-        _ => Ok(None),
-    }
-}
-
-// The value of an OCTET STRING.
+// The value of an OCTET STRING, whose octets have to be whole.
 fn octets<'a>(
     r: &Resolver<'a>,
     module: usize,
@@ -124,9 +123,9 @@ fn octets<'a>(
     let Some(item) = item_of_value(r.scope, module, value) else {
         return Ok(None);
     };
-    match octets_of_item(r.alloc, item)? {
-        Some(octets) => Ok(Some(DefaultValue::Octets(octets))),
-        None => Ok(None),
+    match bits_of_item(r.alloc, item)? {
+        Some(Bits { octets, count }) if count % 8 == 0 => Ok(Some(DefaultValue::Octets(octets))),
+        _ => Ok(None),
     }
 }
 
@@ -151,18 +150,18 @@ fn text<'a>(r: &Resolver<'a>, module: usize, value: &'a [Token<'a>]) -> Option<D
     }
 }
 
-// The value of a BOOLEAN, an INTEGER or an ENUMERATED.
+// The value of a BOOLEAN, an INTEGER, a list, or a type that has a definition.
 fn simple<'a>(
     r: &Resolver<'a>,
     at: TypeAt<'a>,
     notation: &Notation,
     value: &'a [Token<'a>],
 ) -> Option<DefaultValue<'a>> {
-    match (notation, value) {
-        (Notation::Boolean, _) => boolean(value),
-        (Notation::Integer(_, _), _) => Some(DefaultValue::Integer(number(r, at, value)?)),
-        (Notation::Defined(index), [name]) => item(r, *index, *name),
-        _ => None,
+    match notation {
+        Notation::Boolean => boolean(value),
+        Notation::Integer(_, _) => Some(DefaultValue::Integer(number(r, at, value)?)),
+        Notation::Defined(index) => defined(r, at.module, *index, value),
+        other => empty_list(r, at.module, other, value),
     }
 }
 
@@ -176,6 +175,8 @@ pub fn default_value<'a>(
     match without_tags(notation) {
         Notation::ObjectIdentifier => identifier(r, at.module, value),
         Notation::OctetString(_) => octets(r, at.module, value),
+        Notation::BitString(_) => plain_bits(r, at.module, value),
+        Notation::NamedBits(size, names) => named_bits(r, at.module, *size, *names, value),
         Notation::Text(TextKind::Bmp, _) => Ok(None),
         Notation::Text(_, _) => Ok(text(r, at.module, value)),
         other => Ok(simple(r, at, other, value)),

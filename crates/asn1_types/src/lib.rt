@@ -48,6 +48,7 @@
 //! | `tags` | the tags of X.680 |
 //! | `tags_of_types` | the tags that encodings begin with, and parts that no tag distinguishes |
 //! | `defaults` | the values after DEFAULT |
+//! | `bits`, `digits` | those of BIT STRINGs, and binary and hexadecimal strings |
 //! | `resolver` | what is known while types are resolved |
 //! | `named_numbers` | the names in the braces of an INTEGER or a BIT STRING |
 //! | `plain` | types in which no other type is, tags, and constraints |
@@ -59,6 +60,7 @@
 #![tactic(auto)]
 
 mod additions;
+mod bits;
 mod bodies;
 mod builtins;
 mod components;
@@ -66,6 +68,7 @@ mod constants;
 mod constraints;
 mod cores;
 mod defaults;
+mod digits;
 mod enumerations;
 mod integers;
 pub mod model;

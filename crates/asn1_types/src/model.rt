@@ -113,6 +113,13 @@ pub enum DefaultValue<'a> {
     ObjectIdentifier(Vec<u64>),
     /// The octets of an OCTET STRING.
     Octets(Vec<u8>),
+    /// The bits of a BIT STRING: their octets, and how many bits there are. The first bit of an octet is its highest, and unused bits are
+    /// zeros. With named bits the last one is a one.
+    Bits(Vec<u8>, usize),
+    /// A SEQUENCE OF without elements.
+    EmptySequenceOf,
+    /// A SET OF without elements.
+    EmptySetOf,
     /// A string of printable characters of ASCII, as its source writes it between quotation marks. None of them is a quotation mark.
     Text(&'a [u8]),
 }

@@ -122,23 +122,34 @@ pub fn integer_value<'a>(
     Err(no_number(module, value))
 }
 
-/// The one lexical item that a value is, through names of values.
-pub fn item_of_value<'a>(
+/// What a value is, through names of values.
+pub fn value_through_names<'a>(
     scope: Scope<'a>,
     module: usize,
     value: &'a [Token<'a>],
-) -> Option<Token<'a>> {
+) -> Option<NamedValue<'a>> {
     let mut at = NamedValue { module, value };
     for _ in 0..MAX_NAMES {
         match at.value {
             [name] if name.kind == TokenKind::Identifier => {
                 at = value_of(scope, at.module, *name).ok()?;
             }
-            [item] => return Some(*item),
-            _ => return None,
+            _ => return Some(at),
         }
     }
     None
+}
+
+/// The one lexical item that a value is, through names of values.
+pub fn item_of_value<'a>(
+    scope: Scope<'a>,
+    module: usize,
+    value: &'a [Token<'a>],
+) -> Option<Token<'a>> {
+    match value_through_names(scope, module, value)?.value {
+        [item] => Some(*item),
+        _ => None,
+    }
 }
 
 /// The number that a lexical item is: digits, or the name of a value.

@@ -73,6 +73,9 @@ pub fn default_of(builder: &mut Builder, part: &Part<'_>) -> Result<DefaultValue
         }),
         model::DefaultValue::ObjectIdentifier(_)
         | model::DefaultValue::Octets(_)
+        | model::DefaultValue::Bits(_, _)
+        | model::DefaultValue::EmptySequenceOf
+        | model::DefaultValue::EmptySetOf
         | model::DefaultValue::Text(_) => Ok(NO_DEFAULT),
     }
 }

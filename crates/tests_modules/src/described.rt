@@ -149,6 +149,12 @@ fn describe_arcs(out: &mut Description, arcs: &[u64]) {
     }
 }
 
+fn describe_bits(out: &mut Description, octets: &[u8], count: usize) {
+    out.number(count as u64);
+    out.put(" bits in ");
+    describe_octets(out, octets);
+}
+
 fn describe_octets(out: &mut Description, octets: &[u8]) {
     out.put("octets");
     for octet in octets {
@@ -170,6 +176,8 @@ fn describe_default(out: &mut Description, value: &DefaultValue<'_>) {
         }
         DefaultValue::ObjectIdentifier(arcs) => describe_arcs(out, arcs.as_slice()),
         DefaultValue::Octets(octets) => describe_octets(out, octets.as_slice()),
+        DefaultValue::Bits(octets, count) => describe_bits(out, octets.as_slice(), *count),
+        DefaultValue::EmptySequenceOf | DefaultValue::EmptySetOf => out.put("{}"),
         DefaultValue::Text(text) => {
             out.put("\"");
             out.name(text);

@@ -316,6 +316,34 @@ static TESTED: [Row; 6] = [
     ),
 ];
 
+const GROUP: &[u8] =
+    b"M DEFINITIONS IMPLICIT TAGS ::= BEGIN Rows ::= [1] SEQUENCE OF NULL Group ::= SEQUENCE { rows Rows DEFAULT {}, kinds [0] EXPLICIT SET (SIZE (0..4)) OF INTEGER (0..9) DEFAULT {}, flags BIT STRING { first(0), last(9) } DEFAULT { last }, mask [2] BIT STRING DEFAULT '101'B } END";
+
+// Defaults of lists and bits.
+static TESTED_LISTS: [Row; 5] = [
+    (
+        GROUP,
+        "src/group.rt",
+        "type Parts = OrDefault<Rows, RowsDefault, OrDefault<Explicit<Context<0>, Bounded<SetOf<Bounded<u64, AtMost<9>>>, SizeFromTo<0, 4>>>, EmptyList, OrDefault<NamedBits, TestedBits<FlagsDefault>, GroupParts2>>>;\n",
+    ),
+    (
+        GROUP,
+        "src/group.rt",
+        "impl TestedDefault<Rows> for RowsDefault {\n    ghost is = { λ v. is_empty_list v.items.items };\n\n    fn is_default(value: &Rows) -> bool {\n        has_no_items(value.items.as_slice())\n    }\n\n    ghost one = { one_empty_sequence _ (λ v. v.items.items) };\n}\n",
+    ),
+    (
+        GROUP,
+        "src/group.rt",
+        "    ghost bits = { record { bytes = 0 ∷ 64 ∷ []; count = 10 } };\n\n    fn octets() -> &'static [u8] {\n        &[0, 64]\n    }\n\n    fn count() -> usize {\n        10\n    }\n",
+    ),
+    (GROUP, "list", "Rows: exact, canonical\nGroup: exact\n"),
+    (
+        b"M DEFINITIONS ::= BEGIN Group ::= SEQUENCE { id NULL, rows SEQUENCE OF NULL DEFAULT {}, ... } Badge ::= SET { rows SEQUENCE OF NULL DEFAULT {}, flags BIT STRING DEFAULT ''B } END",
+        "list",
+        "Group: accepts more\n    `rows`: a part with a default may be encoded though it is the default\nBadge: accepts more\n    `rows`: a part with a default may be encoded though it is the default\n    `flags`: a part with a default may be encoded though it is the default\n",
+    ),
+];
+
 const HEADS: &[u8] =
     b"M DEFINITIONS ::= BEGIN Head ::= SEQUENCE { id NULL, ..., ..., name UTF8String } Tail ::= SEQUENCE { id NULL, ... } END";
 
@@ -590,6 +618,7 @@ fn enumerations_are_written(rt: HostRuntime) {
 #[test]
 fn tested_defaults_are_written(rt: HostRuntime) {
     assert!(rt; first_missing(rt.alloc(), &TESTED, &[]).is_none());
+    assert!(rt; first_missing(rt.alloc(), &TESTED_LISTS, &[]).is_none());
 }
 
 #[test]

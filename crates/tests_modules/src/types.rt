@@ -48,7 +48,7 @@ static AUTOMATIC_TAGS: [Row; 3] = [
 ];
 
 // Values: defaults (24.10), named numbers, ENUMERATED (20.3 to 20.6), and object identifiers (31).
-static VALUES: [Row; 4] = [
+static VALUES: [Row; 6] = [
     (
         b"M DEFINITIONS AUTOMATIC TAGS ::= BEGIN A ::= SEQUENCE { a B DEFAULT b1, c BOOLEAN DEFAULT TRUE, d INTEGER DEFAULT -3, e E DEFAULT g, h INTEGER DEFAULT i, j OCTET STRING DEFAULT ''H } B ::= INTEGER { b1(7) } E ::= ENUMERATED { f, g } i INTEGER ::= k k INTEGER ::= 12 END",
         "B. = INTEGER\nE. ENUMERATED f 0, g 1,\nA. SEQUENCE a [0 I] INTEGER DEFAULT 7, c [1 I] BOOLEAN DEFAULT TRUE, d [2 I] INTEGER DEFAULT -3, e [3 I] #1 DEFAULT g 1, h [4 I] INTEGER DEFAULT 12, j [5 I] OCTETS DEFAULT octets,\nB.b1 = 7\ni = 12\nk = 12\n",
@@ -56,6 +56,14 @@ static VALUES: [Row; 4] = [
     (
         b"M DEFINITIONS AUTOMATIC TAGS ::= BEGIN A ::= SEQUENCE { a OBJECT IDENTIFIER DEFAULT { d 2 }, b OCTET STRING DEFAULT '0 F'H, c UTF8String DEFAULT e, f OCTET STRING DEFAULT '000000011'B, g IA5String DEFAULT \"a\"\"b\", h BMPString DEFAULT \"a\", i OBJECT IDENTIFIER DEFAULT j, k OCTET STRING DEFAULT '0000 0011'B } d OBJECT IDENTIFIER ::= { iso 2 } e UTF8String ::= \"a b\" END",
         "A. SEQUENCE a [0 I] OID DEFAULT .1.2.2, b [1 I] OCTETS DEFAULT octets 15, c [2 I] UTF8 DEFAULT \"a b\", f [3 I] OCTETS OPTIONAL, g [4 I] IA5 OPTIONAL, h [5 I] BMP OPTIONAL, i [6 I] OID OPTIONAL, k [7 I] OCTETS DEFAULT octets 3, !default !default !default !default\nd = .1.2\ne = a b\n",
+    ),
+    (
+        b"M DEFINITIONS AUTOMATIC TAGS ::= BEGIN A ::= SEQUENCE { a SEQUENCE OF NULL DEFAULT {}, b B DEFAULT c, d SET SIZE (0..4) OF NULL DEFAULT c, e B DEFAULT { NULL }, f C DEFAULT {} } B ::= [APPLICATION 3] SET OF NULL c B ::= {} C ::= SEQUENCE { h NULL OPTIONAL } END",
+        "B. of [A3 I] SET OF NULL\nC. SEQUENCE h [0 I] NULL OPTIONAL,\nA. SEQUENCE a [0 I] SEQUENCE OF NULL DEFAULT {}, b [1 I] #0 DEFAULT {}, d [2 I] SET(0..4) OF NULL DEFAULT {}, e [3 I] #0 OPTIONAL, f [4 I] #1 OPTIONAL, !default !default\n",
+    ),
+    (
+        b"M DEFINITIONS IMPLICIT TAGS ::= BEGIN A ::= SEQUENCE { a B DEFAULT {}, b [0] B DEFAULT { d, c }, c [1] EXPLICIT BIT STRING DEFAULT '0110 1'B, d [2] B DEFAULT 'A040'H, e [3] B (SIZE (4..MAX)) DEFAULT { c }, f [4] B DEFAULT { e }, g [5] BIT STRING DEFAULT {}, h [6] B DEFAULT { c d }, i [7] BIT STRING DEFAULT j, k [8] B (SIZE (1..4)) DEFAULT { c }, m [9] B DEFAULT { l } } B ::= BIT STRING { c(0), d(9), l(1024) } j BIT STRING ::= 'F7A'H END",
+        "B. = NAMED BITS\nA. SEQUENCE a NAMED BITS DEFAULT 0 bits in octets, b [0 I] NAMED BITS DEFAULT 10 bits in octets 128 64, c [1 E] BITS DEFAULT 5 bits in octets 104, d [2 I] NAMED BITS DEFAULT 10 bits in octets 160 64, e [3 I] NAMED BITS(4..) OPTIONAL, f [4 I] NAMED BITS OPTIONAL, g [5 I] BITS DEFAULT 0 bits in octets, h [6 I] NAMED BITS OPTIONAL, i [7 I] BITS DEFAULT 12 bits in octets 247 160, k [8 I] NAMED BITS(1..4) DEFAULT 1 bits in octets 128, m [9 I] NAMED BITS OPTIONAL, !constraint !default !default !default !constraint !default\nB.c = bit 0\nB.d = bit 9\nB.l = bit 1024\n",
     ),
     (
         b"M DEFINITIONS ::= BEGIN A ::= ENUMERATED { a, b(0), c, ..., d, e(9), f } B ::= BIT STRING { g(0), h(5) } C ::= ENUMERATED { i(1), j(1) } END",
