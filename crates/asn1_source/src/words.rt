@@ -4,9 +4,9 @@ ghost use Rattle.std.specs.Prelude.{◌<◌, length};
 use crate::text::Text;
 
 // Words that Rust or Rattle reserves.
-static RESERVED: [&str; 68] = [
+static RESERVED: [&str; 69] = [
     "abstract", "as", "async", "await", "become", "box", "break", "const", "continue", "crate",
-    "data", "do", "dyn", "else", "ensures", "enum", "extern", "false", "final", "fn", "for",
+    "data", "do", "dyn", "else", "ensures", "enum", "extern", "false", "final", "fn", "for", "gen",
     "ghost", "if", "impl", "in", "let", "loop", "macro", "main", "match", "mod", "move", "mut",
     "open", "override", "priv", "pub", "record", "ref", "requires", "return", "rule", "ruleset",
     "self", "static", "std", "core", "struct", "super", "trait", "true", "try", "type", "typeof",

@@ -71,9 +71,9 @@ static NAMES: [Row; 9] = [
         "pub struct Package {\n    pub the_module: (),\n}\n",
     ),
     (
-        b"M DEFINITIONS ::= BEGIN Answer ::= SEQUENCE { result NULL } END",
+        b"M DEFINITIONS ::= BEGIN Answer ::= SEQUENCE { result NULL, gen NULL } END",
         "src/answer.rt",
-        "pub struct Answer {\n    pub the_result: (),\n}\n",
+        "pub struct Answer {\n    pub the_result: (),\n    pub the_gen: (),\n}\n",
     ),
 ];
 
