@@ -1,4 +1,4 @@
-//! What the examples of defaults of strings, object identifiers and structs read and write.
+//! What the examples of defaults of strings, object identifiers, structs, lists and bits read and write.
 //!
 //! Rows of openssl are parameters of signatures that `openssl req -x509 -sigopt rsa_padding_mode:pss` made. The others are written by hand from
 //! X.690.
@@ -7,6 +7,7 @@ use crate::checks::{
     Claim, Kind, Row, finds_none, first_failing, holds_if_valid, holds_of_checked, holds_of_defined,
 };
 use crate::examples::label::Label;
+use crate::examples::outline::{Folder, Outline};
 use crate::examples::pss_params::PssParams;
 use std::alloc::Global;
 
@@ -15,6 +16,8 @@ use std::alloc::Global;
 enum Example {
     Label,
     PssParams,
+    Outline,
+    Folder,
 }
 
 impl Kind for Example {
@@ -25,11 +28,13 @@ impl Kind for Example {
                     && holds_if_valid::<Label>(alloc, bytes, claim)
             }
             Example::PssParams => holds_of_checked::<PssParams>(alloc, bytes, claim),
+            Example::Outline => holds_of_checked::<Outline>(alloc, bytes, claim),
+            Example::Folder => holds_of_checked::<Folder>(alloc, bytes, claim),
         }
     }
 }
 
-static ROWS: [Row<Example>; 34] = [
+static ROWS: [Row<Example>; 54] = [
     (
         Example::Label,
         Claim::IsEncoding,
@@ -233,6 +238,126 @@ static ROWS: [Row<Example>; 34] = [
         Claim::IsRejected,
         "a salt before an algorithm",
         "3010a203020120a009300706052b0e03021a",
+    ),
+    (
+        Example::Outline,
+        Claim::IsEncoding,
+        "an outline of defaults",
+        "3000",
+    ),
+    (
+        Example::Outline,
+        Claim::Becomes("3000"),
+        "no heights, encoded",
+        "30023000",
+    ),
+    (
+        Example::Outline,
+        Claim::IsEncoding,
+        "a height",
+        "30053003020101",
+    ),
+    (
+        Example::Outline,
+        Claim::Becomes("3000"),
+        "no marks, encoded",
+        "3002a000",
+    ),
+    (
+        Example::Outline,
+        Claim::IsEncoding,
+        "a mark",
+        "3005a0030c0161",
+    ),
+    (
+        Example::Outline,
+        Claim::Becomes("3000"),
+        "the inner bits 0110",
+        "300481020460",
+    ),
+    (
+        Example::Outline,
+        Claim::IsEncoding,
+        "the inner bits 01100",
+        "300481020360",
+    ),
+    (
+        Example::Outline,
+        Claim::IsEncoding,
+        "no inner bit",
+        "3003810100",
+    ),
+    (
+        Example::Outline,
+        Claim::Becomes("3000"),
+        "the back is shown",
+        "300482020640",
+    ),
+    (
+        Example::Outline,
+        Claim::IsEncoding,
+        "the front is shown",
+        "300482020780",
+    ),
+    (
+        Example::Outline,
+        Claim::IsRejected,
+        "a mark before a height",
+        "300aa0030c01613003020101",
+    ),
+    (
+        Example::Folder,
+        Claim::IsEncoding,
+        "a folder of defaults",
+        "3103020105",
+    ),
+    (
+        Example::Folder,
+        Claim::Becomes("3103020105"),
+        "no heights in a folder, encoded",
+        "31050201053000",
+    ),
+    (
+        Example::Folder,
+        Claim::IsEncoding,
+        "a folder with a height",
+        "31080201053003020101",
+    ),
+    (
+        Example::Folder,
+        Claim::Becomes("31080201053003020101"),
+        "a height before the folder's number",
+        "31083003020101020105",
+    ),
+    (
+        Example::Folder,
+        Claim::Becomes("3103020105"),
+        "the folder's inner bits 0110",
+        "310702010581020460",
+    ),
+    (
+        Example::Folder,
+        Claim::IsEncoding,
+        "other inner bits of a folder",
+        "310702010581020360",
+    ),
+    (
+        Example::Folder,
+        Claim::Becomes("3103020105"),
+        "both defaults of a folder before its number",
+        "3109810204603000020105",
+    ),
+    (
+        Example::Folder,
+        Claim::IsRejected,
+        "a folder without a number",
+        "31023000",
+    ),
+    (
+        Example::Folder,
+        Claim::IsRejected,
+        "no heights in a folder, twice",
+        "310702010530003000",
     ),
 ];
 

@@ -17,6 +17,7 @@
 //! | `settings` | defaults of numbers |
 //! | `label` | defaults of strings and an object identifier |
 //! | `pss_params` | defaults of structs |
+//! | `outline` | defaults of lists and bits, in a SET too |
 //!
 //! `header`, `label`, `person`, `principal_name`, `profile`, `reply`, `shape` and `ticket` show a struct or an enum with its functions. The others are their
 //! notation alone, whose values `crate::values` holds.
@@ -27,6 +28,7 @@ pub mod frame;
 pub mod header;
 pub mod key_info;
 pub mod label;
+pub mod outline;
 pub mod person;
 pub mod principal_name;
 pub mod profile;

@@ -1,6 +1,6 @@
 -- What reading the parts of a SET does: each is chosen by its tag from the elements that were found.
 use Rattle.std.proofs.Common.{◌≡◌, ◌∷◌, ◌++◌, [], ◌<◌, ◌≤◌, ℕ, zero, suc, List, Bool, true, false, Option, Some, None, Result, Ok, Err, inl, inr}
-use Rattle.std.proofs.Common.{length, refl, sym, ap, ap₂, subst, ◌∙◌, append-nil, length-append, take, drop, arith}
+use Rattle.std.proofs.Common.{length, not, refl, sym, ap, ap₂, subst, ◌∙◌, append-nil, length-append, take, drop, arith}
 use Rattle.std.specs.Borrow.{MutBor}
 use Rattle.std.specs.Fn.{Once, FnOnceReturnsAtMut}
 use Rattle.std.specs.List.{AllByRecursion, Contains}
@@ -12,7 +12,7 @@ use Rattle.yasna_base.specs.declared.mode.BERMode.TheVariants.{Ber, Der, Cer}
 use Rattle.yasna_base.specs.declared.tag.Tag.{Tag}
 use Rattle.yasna_base.specs.Beginnings.{BeginsWithOne, BeginsBy, share_none}
 use Rattle.yasna_base.specs.Choice.{EitherOf, AnyEither}
-use Rattle.yasna_base.specs.Coding.{IsCoding}
+use Rattle.yasna_base.specs.Coding.{IsCoding, IsSame}
 use Rattle.yasna_base.specs.Default.{TakesDefault, DetectsDefault}
 use Rattle.yasna_base.specs.Error.{kind_of}
 use Rattle.yasna_base.specs.Grammar.{Grammar, Members}
@@ -41,8 +41,10 @@ use Rattle.yasna_notation.specs.Choices.{sides}
 use Rattle.yasna_notation.proofs.Contents.{paired}
 use Rattle.yasna.proofs.Closures.{by_run}
 use Rattle.yasna_notation.specs.Elements.{AreSingleElements}
-use Rattle.yasna_notation_types.specs.SetParts.{Pieced, PickOf, OptionPick, DefaultPick, OmitsDefault, PickMaybe, AreSetParts}
-use Rattle.yasna_notation_types.specs.SetParts.{tags_precede, all_others, pick_once, others_without, tagged, omits_default, not_both}
+use Rattle.yasna_notation_constraints.specs.OrDefault.{accepted_by}
+use Rattle.yasna_notation_constraints.specs.TestedDefaults.{IsOneValue, some_passes}
+use Rattle.yasna_notation_types.specs.SetParts.{Pieced, PickOf, OptionPick, DefaultPick, OrDefaultPick, OmitsDefault, PickMaybe, PickUnless, AreSetParts}
+use Rattle.yasna_notation_types.specs.SetParts.{tags_precede, all_others, pick_once, others_without, tagged, omits_default, not_both, not_true}
 use Rattle.yasna_notation_types.specs.SetReading.{encodings_of, AreFound, set_result, ReadsPicks, ReadsSetParts, Chose, ChoseNone, ChoseWrong, ChosenIs, ReadsSetPart, value_or_default, as_second}
 
 -- an element was read to its end
@@ -583,9 +585,38 @@ accepted {A} is d Cer v w e = by_test (is v) refl e
     by_test true f e = absurd (cc)
     by_test false f e = (let g : v ≡ w = cc in g, inr f)
 
+not_false : (b : Bool) → not b ≡ false → b ≡ true
+not_false true e = refl
+not_false false e = absurd (cc)
+
+-- whether a value that was found is rejected, where the default has no value of its own
+untaken : {A : Type 0} (is : A → Bool) (m : BERMode) (v : A) → accepted_by (some_passes is) m (Some v) ≡ false → (TakesDefault m → ⊥) × (is v ≡ true)
+untaken is Ber v e = absurd (cc)
+untaken is Der v e = (λ t. t, not_false (is v) e)
+untaken is Cer v e = (λ t. t, not_false (is v) e)
+
+taken_if : {A : Type 0} (is : A → Bool) (m : BERMode) (v : A) → accepted_by (some_passes is) m (Some v) ≡ true → TakesDefault m ⊎ (is v ≡ false)
+taken_if is Ber v e = inl tt
+taken_if is Der v e = inr (not_true (is v) e)
+taken_if is Cer v e = inr (not_true (is v) e)
+
+-- an omitted part is accepted
+none_taken : {A : Type 0} (is : A → Bool) (m : BERMode) → accepted_by (some_passes is) m None ≡ true
+none_taken is Ber = refl
+none_taken is Der = refl
+none_taken is Cer = refl
+
+-- what equals the default is the default
+pub detected : {A : Type 0} {E : A → A → Type 0} (is : A → Bool) (d : A) → DetectsDefault E is d → IsSame E → (v w : A) → E v w → is v ≡ true → is w ≡ true
+detected is d detects equal v w same e = (detects w).1 (equal.transitive w v d (equal.symmetric v w same) ((detects v).0 e))
+
+-- and so does what equals one of the values that pass a test, if these are one value
+pub one_passes : {A : Type 0} {E : A → A → Type 0} (is : A → Bool) → IsOneValue E is → IsSame E → (v w : A) → E v w → is v ≡ true → is w ≡ true
+one_passes is one equal v w same e = (one v e w).1 (equal.symmetric v w same)
+
 module _ {A V : Type 0} {ts us : List Tag} {E : A → A → Type 0} {F : V → V → Type 0} {B : Grammar A} {C : Grammar V} {S M : Members}
-    {P : Pieced V} (is : A → Bool) (d : A) (detects : DetectsDefault E is d) (x : IsCoding E B S) (begins : BeginsBy ts S) (whole : AreSingleElements S)
-    (y : AreSetParts us F C P M) (above : tags_precede ts us ≡ true) (none : share_none ts us ≡ true)
+    {P : Pieced V} (is : A → Bool) (passes : (v w : A) → E v w → is v ≡ true → is w ≡ true) (x : IsCoding E B S) (begins : BeginsBy ts S)
+    (whole : AreSingleElements S) (y : AreSetParts us F C P M) (above : tags_precede ts us ≡ true) (none : share_none ts us ≡ true)
     (c : SetReading) (c1 : SetReading) (r : Result (Option A) ASN1Error) (h : ReadsSetPart ts B S c r c1) where
   abbrev k : BERMode
   k = c.reader.mode
@@ -619,7 +650,7 @@ module _ {A V : Type 0} {ts us : List Tag} {E : A → A → Type 0} {F : V → V
   not_default v i never e u (inl p) =
       let o = same_one z begins whole y above none c c1 u p i.before i.one i.after i.whole i.has_tag in
       let same = x.meaning.exact k l l v u.0 p.one (subst (λ b. B k l v b) o.1 i.encodes) p.here.0 in
-      let also = (detects u.0).1 (x.meaning.equal.transitive u.0 v d (x.meaning.equal.symmetric v u.0 same) ((detects v).0 e)) in
+      let also = passes v u.0 same e in
       elim p.here.1 [
         | inl t ↦ never t
         | inr f ↦ not_both (is u.0) also f
@@ -627,8 +658,8 @@ module _ {A V : Type 0} {ts us : List Tag} {E : A → A → Type 0} {F : V → V
   not_default v i never e u (inr p) = not_without z begins whole y above none c c1 u.1 i.before i.one i.after i.whole i.has_tag p.0
 
   -- the encoding of a default, which the mode rejects
-  pub default_rejected : (o : Option A) → r ≡ Ok o → value_or_default is d c1.reader.mode o ≡ None → (e : ASN1Error) → ReadsSetParts (DefaultPick is B P) c (Err e) c1
-  default_rejected (Some v) at none_is e = record {
+  pub default_rejected : (d : A) (o : Option A) → r ≡ Ok o → value_or_default is d c1.reader.mode o ≡ None → (e : ASN1Error) → ReadsSetParts (DefaultPick is B P) c (Err e) c1
+  default_rejected d (Some v) at none_is e = record {
     reads = λ fresh found.
         let i = default_is (Ok (Some v)) at fresh found in
         let mode = ap (λ (w : Reading). w.mode) i.reader in
@@ -637,7 +668,21 @@ module _ {A V : Type 0} {ts us : List Tag} {E : A → A → Type 0} {F : V → V
         (sym (result_unread z begins whole y above none c c1 e (ap (λ (w : Reading). w.failed) i.reader ∙ fresh.0)))
         (λ q u p. not_default v i j.0 j.1 u p);
   }
-  default_rejected None at none_is e = absurd (cc)
+  default_rejected d None at none_is e = absurd (cc)
+
+  -- an element that was chosen, and isn't that of the default
+  omitting : (v : A) → Chose (B k l) ts c v c1 → TakesDefault k ⊎ (is v ≡ false) → Chose (OmitsDefault is B k l) ts c v c1
+  omitting v i t = record {
+    before = i.before;
+    one = i.one;
+    after = i.after;
+    whole = i.whole;
+    others = i.others;
+    has_tag = i.has_tag;
+    encodes = (i.encodes, t);
+    reader = i.reader;
+    found = i.found;
+  }
 
   default_both : (v : A) (w : Result V ASN1Error) → Chose (OmitsDefault is B k l) ts c v c1 → ReadsPicks (P k l) (encodings_of c1.list.items) w →
       ReadsPicks (DefaultPick is B P k l) qs (paired v w)
@@ -648,42 +693,97 @@ module _ {A V : Type 0} {ts us : List Tag} {E : A → A → Type 0} {F : V → V
       by_part q u (inl p) = both z begins whole y above none c c1 v (Err e) i j q u p
       by_part q u (inr p) = not_without z begins whole y above none c c1 u.1 i.before i.one i.after i.whole i.has_tag p.0
 
-  default_none : (w : Result V ASN1Error) → ChoseNone ts c c1 → ReadsPicks (P k l) qs w → ReadsPicks (DefaultPick is B P k l) qs (paired d w)
-  default_none (Ok w) i j = inr (j, (detects d).1 (x.meaning.equal.reflexive d))
-  default_none (Err e) i j = λ q u p. by_part q u p
+  default_none : (d : A) → is d ≡ true → (w : Result V ASN1Error) → ChoseNone ts c c1 → ReadsPicks (P k l) qs w → ReadsPicks (DefaultPick is B P k l) qs (paired d w)
+  default_none d is_default (Ok w) i j = inr (j, is_default)
+  default_none d is_default (Err e) i j = λ q u p. by_part q u p
     where
       by_part : (kind_of e ≡ OutOfMemory → ⊥) → (u : A × V) → DefaultPick is B P k l u qs → ⊥
       by_part q u (inl p) = not_within z begins whole y above none c c1 u i.none p
       by_part q u (inr p) = j q u.1 p.0
 
   -- a part with a default that was read or is omitted, before the others
-  pub default_read : (o : Option A) (w : A) → r ≡ Ok o → value_or_default is d c1.reader.mode o ≡ Some w → (r2 : Result V ASN1Error) (c2 : SetReading) →
-      ReadsSetParts P c1 r2 c2 → ReadsSetParts (DefaultPick is B P) c (paired w r2) c2
-  default_read (Some v) w at value r2 c2 s = record {
+  pub default_read : (d : A) → is d ≡ true → (o : Option A) (w : A) → r ≡ Ok o → value_or_default is d c1.reader.mode o ≡ Some w →
+      (r2 : Result V ASN1Error) (c2 : SetReading) → ReadsSetParts P c1 r2 c2 → ReadsSetParts (DefaultPick is B P) c (paired w r2) c2
+  default_read d is_default (Some v) w at value r2 c2 s = record {
     reads = λ fresh found.
         let i = default_is (Ok (Some v)) at fresh found in
         let mode = ap (λ (u : Reading). u.mode) i.reader in
         let j = accepted is d k v w (subst (λ o. value_or_default is d o (Some v) ≡ Some w) mode value) in
-        let encoded : Chose (OmitsDefault is B k l) ts c v c1 = record {
-          before = i.before;
-          one = i.one;
-          after = i.after;
-          whole = i.whole;
-          others = i.others;
-          has_tag = i.has_tag;
-          encodes = (i.encodes, j.1);
-          reader = i.reader;
-          found = i.found;
-        } in
         subst (λ u. ReadsPicks (DefaultPick is B P k l) qs (set_result (paired u r2) c2)) j.0
         (subst (ReadsPicks (DefaultPick is B P k l) qs) (paired_result v r2 c2.reader.failed c2.list.items)
-        (default_both v (set_result r2 c2) encoded (after x begins whole y above none c c1 v r2 c2 fresh i s)));
+        (default_both v (set_result r2 c2) (omitting v i j.1) (after x begins whole y above none c c1 v r2 c2 fresh i s)));
   }
-  default_read None w at value r2 c2 s = record {
+  default_read d is_default None w at value r2 c2 s = record {
     reads = λ fresh found.
         let i = default_is (Ok None) at fresh found in
         let same : d ≡ w = cc in
         subst (λ u. ReadsPicks (DefaultPick is B P k l) qs (set_result (paired u r2) c2)) same
         (subst (ReadsPicks (DefaultPick is B P k l) qs) (paired_result d r2 c2.reader.failed c2.list.items)
-        (default_none (set_result r2 c2) i (after_none x begins whole y above none c c1 r2 c2 fresh found i s)));
+        (default_none d is_default (set_result r2 c2) i (after_none x begins whole y above none c c1 r2 c2 fresh found i s)));
+  }
+
+  wrong_or_default : (e : ASN1Error) → ChosenIs B S ts c (Err e) c1 → (kind_of e ≡ OutOfMemory → ⊥) → (o : Option A) (w : V) →
+      PickUnless is B P k l o w qs → ⊥
+  wrong_or_default e i q (Some v) w p = wrong_default e i q (v, w) p
+  wrong_or_default e i q None w p = not_without z begins whole y above none c c1 w i.before i.one i.after i.whole i.has_tag p
+
+  -- a part whose value is none for the default, and whose element is rejected
+  pub or_default_wrong : (e : ASN1Error) → r ≡ Err e → ReadsSetParts (OrDefaultPick is B P) c (Err e) c1
+  or_default_wrong e at = record {
+    reads = λ fresh found.
+        let i = default_is (Err e) at fresh found in
+        subst (ReadsPicks (OrDefaultPick is B P k l) qs) (sym (result_wrong z begins whole y above none c c1 e i)) (λ q v p. wrong_or_default e i q v.0 v.1 p);
+  }
+
+  not_or_default : (v : A) → Chose (B k l) ts c v c1 → (TakesDefault k → ⊥) → is v ≡ true → (o : Option A) (w : V) → PickUnless is B P k l o w qs → ⊥
+  not_or_default v i never e (Some u) w p = not_default v i never e (u, w) p
+  not_or_default v i never e None w p = not_without z begins whole y above none c c1 w i.before i.one i.after i.whole i.has_tag p
+
+  -- the encoding of such a default, which the mode rejects
+  pub or_default_rejected : (o : Option A) → r ≡ Ok o → accepted_by (some_passes is) c1.reader.mode o ≡ false → (e : ASN1Error) → ReadsSetParts (OrDefaultPick is B P) c (Err e) c1
+  or_default_rejected (Some v) at not_taken e = record {
+    reads = λ fresh found.
+        let i = default_is (Ok (Some v)) at fresh found in
+        let mode = ap (λ (w : Reading). w.mode) i.reader in
+        let j = untaken is k v (subst (λ o. accepted_by (some_passes is) o (Some v) ≡ false) mode not_taken) in
+        subst (ReadsPicks (OrDefaultPick is B P k l) qs)
+        (sym (result_unread z begins whole y above none c c1 e (ap (λ (w : Reading). w.failed) i.reader ∙ fresh.0)))
+        (λ q u p. not_or_default v i j.0 j.1 u.0 u.1 p);
+  }
+  or_default_rejected None at not_taken e = absurd (not_both (accepted_by (some_passes is) c1.reader.mode None) (none_taken is c1.reader.mode) not_taken)
+
+  or_default_both : (v : A) (w : Result V ASN1Error) → Chose (OmitsDefault is B k l) ts c v c1 → ReadsPicks (P k l) (encodings_of c1.list.items) w →
+      ReadsPicks (OrDefaultPick is B P k l) qs (paired (Some v) w)
+  or_default_both v (Ok w) i j = default_both v (Ok w) i j
+  or_default_both v (Err e) i j = λ q u p. by_part q u.0 u.1 p
+    where
+      by_part : (kind_of e ≡ OutOfMemory → ⊥) → (o : Option A) (w : V) → PickUnless is B P k l o w qs → ⊥
+      by_part q (Some u) w p = default_both v (Err e) i j q (u, w) p
+      by_part q None w p = not_without z begins whole y above none c c1 w i.before i.one i.after i.whole i.has_tag p
+
+  or_default_none : (w : Result V ASN1Error) → ChoseNone ts c c1 → ReadsPicks (P k l) qs w → ReadsPicks (OrDefaultPick is B P k l) qs (paired None w)
+  or_default_none (Ok w) i j = j
+  or_default_none (Err e) i j = λ q u p. by_part q u.0 u.1 p
+    where
+      by_part : (kind_of e ≡ OutOfMemory → ⊥) → (o : Option A) (w : V) → PickUnless is B P k l o w qs → ⊥
+      by_part q (Some u) w (inl p) = not_within z begins whole y above none c c1 (u, w) i.none p
+      by_part q (Some u) w (inr p) = j q w p.0
+      by_part q None w p = j q w p
+
+  -- such a part that was read or is omitted, before the others
+  pub or_default_read : (o : Option A) → r ≡ Ok o → accepted_by (some_passes is) c1.reader.mode o ≡ true → (r2 : Result V ASN1Error) (c2 : SetReading) →
+      ReadsSetParts P c1 r2 c2 → ReadsSetParts (OrDefaultPick is B P) c (paired o r2) c2
+  or_default_read (Some v) at taken r2 c2 s = record {
+    reads = λ fresh found.
+        let i = default_is (Ok (Some v)) at fresh found in
+        let mode = ap (λ (u : Reading). u.mode) i.reader in
+        let j = taken_if is k v (subst (λ o. accepted_by (some_passes is) o (Some v) ≡ true) mode taken) in
+        subst (ReadsPicks (OrDefaultPick is B P k l) qs) (paired_result (Some v) r2 c2.reader.failed c2.list.items)
+        (or_default_both v (set_result r2 c2) (omitting v i j) (after x begins whole y above none c c1 v r2 c2 fresh i s));
+  }
+  or_default_read None at taken r2 c2 s = record {
+    reads = λ fresh found.
+        let i = default_is (Ok None) at fresh found in
+        subst (ReadsPicks (OrDefaultPick is B P k l) qs) (paired_result None r2 c2.reader.failed c2.list.items)
+        (or_default_none (set_result r2 c2) i (after_none x begins whole y above none c c1 r2 c2 fresh found i s));
   }

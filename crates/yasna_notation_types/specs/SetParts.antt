@@ -40,6 +40,8 @@ use Rattle.yasna_notation.specs.Elements.{AreSingleElements, AreJoined, enclosed
 use Rattle.yasna_notation.specs.Laws.{element_lawful}
 use Rattle.yasna_notation.specs.Notation.{IsNotation, NotationKeepsLaws, IsWrittenAs}
 use Rattle.yasna_notation.specs.Parts.{AreParts}
+use Rattle.yasna_notation_constraints.specs.OrDefault.{SameOrDefault, OrDefaultOf}
+use Rattle.yasna_notation_constraints.specs.TestedDefaults.{IsOneValue}
 
 -- which encodings, in some order, encode the parts of a value
 abbrev pub Pieced : Type 0 → Type 1
@@ -77,6 +79,14 @@ OmitsDefault is B m n v b = B m n v b × (TakesDefault m ⊎ (is v ≡ false))
 -- one of them encodes a part with a default, or the part is omitted and the value is the default
 abbrev pub DefaultPick : {A V : Type 0} → (A → Bool) → Grammar A → Pieced V → Pieced (A × V)
 DefaultPick is B P m n v ps = PickOf (OmitsDefault is B) P m n v ps ⊎ (P m n v.1 ps × (is v.0 ≡ true))
+
+-- a part whose value is none for the default: none is an omitted part, and a value that is there is encoded as one with a default
+abbrev pub PickUnless : {A V : Type 0} → (A → Bool) → Grammar A → Pieced V → BERMode → ℕ → Option A → V → List (List ℕ) → Type 0
+PickUnless is B P m n (Some v) w ps = DefaultPick is B P m n (v, w) ps
+PickUnless is B P m n None w ps = P m n w ps
+
+abbrev pub OrDefaultPick : {A V : Type 0} → (A → Bool) → Grammar A → Pieced V → Pieced (Option A × V)
+OrDefaultPick is B P m n v ps = PickUnless is B P m n v.0 v.1 ps
 
 -- the tags with which they begin are in the order that the mode requires of a SET
 pub record InTagOrder (m : BERMode) (ps : List (List ℕ)) : Type 0 where
@@ -201,7 +211,7 @@ no_set_parts = record {
   raw = λ m n b p. absurd p;
 }
 
-not_true : (b : Bool) → not b ≡ true → b ≡ false
+pub not_true : (b : Bool) → not b ≡ true → b ≡ false
 not_true true e = absurd (cc)
 not_true false e = refl
 
@@ -446,7 +456,7 @@ omits_default is x = record {
 }
 
 module _ {A V : Type 0} {ts us : List Tag} {E : A → A → Type 0} {F : V → V → Type 0} {B : Grammar A} {C : Grammar V} {S M : Members}
-    {P : Pieced V} (is : A → Bool) (d : A) (detects : DetectsDefault E is d) (x : IsCoding E B S) (begins : BeginsBy ts S)
+    {P : Pieced V} (is : A → Bool) (both : (v w : A) → is v ≡ true → is w ≡ true → E v w) (x : IsCoding E B S) (begins : BeginsBy ts S)
     (whole : AreSingleElements S) (y : AreSetParts us F C P M) (above : tags_precede ts us ≡ true) (none : share_none ts us ≡ true) where
   abbrev z : IsCoding E (OmitsDefault is B) S
   z = omits_default is x
@@ -455,16 +465,11 @@ module _ {A V : Type 0} {ts us : List Tag} {E : A → A → Type 0} {F : V → V
   default_within m n v ps (inl p) = part_within z begins whole y above none m n v ps p
   default_within m n v ps (inr p) = all_so (M m n) (AnyEither S M m n) (λ i k. inr k) ps (y.within m n v.1 ps p.0)
 
-  -- two values that are the default are equal
-  both_default : (v w : A) → is v ≡ true → is w ≡ true → E v w
-  both_default v w p q =
-      x.meaning.equal.transitive v d w ((detects v).0 p) (x.meaning.equal.symmetric w d ((detects w).0 q))
-
   default_exact : (m : BERMode) (n k : ℕ) (v w : A × V) (ps : List (List ℕ)) → DefaultPick is B P m n v ps → DefaultPick is B P m k w ps → SamePart E F v w
   default_exact m n k v w ps (inl p) (inl q) = part_exact z begins whole y above none m n k v w ps p q
   default_exact m n k v w ps (inl p) (inr q) = absurd (not_omitted z begins whole y above none m n k v.0 v.1 w.1 ps p q.0)
   default_exact m n k v w ps (inr p) (inl q) = absurd (not_omitted z begins whole y above none m k n w.0 w.1 v.1 ps q p.0)
-  default_exact m n k v w ps (inr p) (inr q) = (both_default v.0 w.0 p.1 q.1, y.exact m n k v.1 w.1 ps p.0 q.0)
+  default_exact m n k v w ps (inr p) (inr q) = (both v.0 w.0 p.1 q.1, y.exact m n k v.1 w.1 ps p.0 q.0)
 
   default_deeper : (m : BERMode) (n k : ℕ) (v : A × V) (ps : List (List ℕ)) → n ≤ k → DefaultPick is B P m n v ps → DefaultPick is B P m k v ps
   default_deeper m n k v ps l (inl p) = inl (part_deeper z begins whole y above none m n k v ps l p)
@@ -510,6 +515,61 @@ module _ {A V : Type 0} {ts us : List Tag} {E : A → A → Type 0} {F : V → V
     raw = part_raw x begins whole y above none;
   }
 
+  or_within : (m : BERMode) (n : ℕ) (v : Option A) (w : V) (ps : List (List ℕ)) → PickUnless is B P m n v w ps → AllByRecursion (AnyEither S M m n) ps
+  or_within m n (Some v) w ps p = default_within m n (v, w) ps p
+  or_within m n None w ps p = all_so (M m n) (AnyEither S M m n) (λ i k. inr k) ps (y.within m n w ps p)
+
+  or_exact : (m : BERMode) (n k : ℕ) (v w : Option A) (i j : V) (ps : List (List ℕ)) → PickUnless is B P m n v i ps → PickUnless is B P m k w j ps →
+      SameOrDefault is E v w × F i j
+  or_exact m n k (Some v) (Some w) i j ps p q = default_exact m n k (v, i) (w, j) ps p q
+  or_exact m n k (Some v) None i j ps (inl p) q = absurd (not_omitted z begins whole y above none m n k v i j ps p q)
+  or_exact m n k (Some v) None i j ps (inr p) q = (p.1, y.exact m n k i j ps p.0 q)
+  or_exact m n k None (Some w) i j ps p (inl q) = absurd (not_omitted z begins whole y above none m k n w j i ps q p)
+  or_exact m n k None (Some w) i j ps p (inr q) = (q.1, y.exact m n k i j ps p q.0)
+  or_exact m n k None None i j ps p q = (tt, y.exact m n k i j ps p q)
+
+  or_deeper : (m : BERMode) (n k : ℕ) (v : Option A) (w : V) (ps : List (List ℕ)) → n ≤ k → PickUnless is B P m n v w ps → PickUnless is B P m k v w ps
+  or_deeper m n k (Some v) w ps l p = default_deeper m n k (v, w) ps l p
+  or_deeper m n k None w ps l p = y.deeper m n k w ps l p
+
+  or_listed : (m : BERMode) (n : ℕ) (v : Option A) (w : V) (ps : List (List ℕ)) → PickUnless is B P m n v w ps →
+      (c : List ℕ) × PartOf (OrDefaultOf is B) C m n (v, w) c
+  or_listed m n (Some v) w ps p = default_listed m n (v, w) ps p
+  or_listed m n None w ps p =
+      let k = y.listed m n w ps p in
+      (k.0, record { prefix = []; rest = k.0; joined = refl; here = refl; more = k.1 })
+
+  or_parted : (m : BERMode) (n : ℕ) (v : Option A) (w : V) (c : List ℕ) → PartOf (OrDefaultOf is B) C m n (v, w) c →
+      (ps : List (List ℕ)) × PickUnless is B P m n v w ps × (c ≡ concat ps) × ((ws : List Tag) × Each BeginsWithTag ws ps × Ascend ws)
+  or_parted m n (Some v) w c h = by_prefix m n (v, w) c h.prefix h.rest h.joined h.here h.more
+  or_parted m n None w c h =
+      let k = y.parted m n w h.rest h.more in
+      (k.0, k.1, h.joined ∙ ap (λ i. i ++ h.rest) h.here ∙ k.2, k.3)
+
+  or_ordered : (m : BERMode) (n : ℕ) (v : Option A) (w : V) (ps : List (List ℕ)) (ws : List Tag) → PickUnless is B P m n v w ps →
+      Each BeginsWithTag ws ps → Ascend ws → PartOf (OrDefaultOf is B) C m n (v, w) (concat ps)
+  or_ordered m n (Some v) w ps ws p e a = default_ordered m n (v, w) ps ws p e a
+  or_ordered m n None w ps ws p e a = record { prefix = []; rest = concat ps; joined = refl; here = refl; more = y.ordered m n w ps ws p e a }
+
+  -- a part whose value is none for the default
+  pub or_default_keeps : AreSetParts (ts ++ us) (SamePart (SameOrDefault is E) F) (PartOf (OrDefaultOf is B) C) (OrDefaultPick is B P) (AnyEither S M)
+  or_default_keeps = record {
+    within = λ m n v. or_within m n v.0 v.1;
+    begins = either_by_tags begins y.begins;
+    opens = part_opens x begins whole y above none;
+    prefix_free = part_prefix_free x begins whole y above none;
+    exact = λ m n k v w. or_exact m n k v.0 w.0 v.1 w.1;
+    deeper = λ m n k v. or_deeper m n k v.0 v.1;
+    listed = λ m n v. or_listed m n v.0 v.1;
+    parted = λ m n v. or_parted m n v.0 v.1;
+    ordered = λ m n v. or_ordered m n v.0 v.1;
+    raw = part_raw x begins whole y above none;
+  }
+
+-- two values that are the default are equal
+both_default : {A : Type 0} {E : A → A → Type 0} (is : A → Bool) (d : A) → DetectsDefault E is d → IsSame E → (v w : A) → is v ≡ true → is w ≡ true → E v w
+both_default is d detects equal v w p q = equal.transitive v d w ((detects v).0 p) (equal.symmetric w d ((detects w).0 q))
+
 module _ {A V : Type 0} {ts us : List Tag} {E : A → A → Type 0} {F : V → V → Type 0} {B : Grammar A} {C : Grammar V} {S M : Members}
     {P : Pieced V} {f : Encoding A} {G : Fitting A} {c : A → Type 0} (x : IsNotation true ts E B S f G c) (y : AreSetParts us F C P M)
     (above : tags_precede ts us ≡ true) (none : share_none ts us ≡ true) where
@@ -524,7 +584,7 @@ module _ {A V : Type 0} {ts us : List Tag} {E : A → A → Type 0} {F : V → V
   -- a part with a default
   pub set_default : (is : A → Bool) (d : A) → DetectsDefault E is d →
       AreSetParts (ts ++ us) (SamePart E F) (PartOf (DefaultOf is B) C) (DefaultPick is B P) (AnyEither S M)
-  set_default is d detects = default_keeps is d detects x.coding (x.begins refl) x.single y above none
+  set_default is d detects = default_keeps is (both_default is d detects x.coding.meaning.equal) x.coding (x.begins refl) x.single y above none
 
 -- a part with a default: `set_default` with the default first
 pub set_with_default : {A V : Type 0} {ts us : List Tag} {E : A → A → Type 0} {F : V → V → Type 0} {B : Grammar A} {C : Grammar V} {S M : Members}
@@ -532,6 +592,14 @@ pub set_with_default : {A V : Type 0} {ts us : List Tag} {E : A → A → Type 0
     AreSetParts us F C P M → tags_precede ts us ≡ true → share_none ts us ≡ true →
     AreSetParts (ts ++ us) (SamePart E F) (PartOf (DefaultOf is B) C) (DefaultPick is B P) (AnyEither S M)
 set_with_default is d detects x y above none = set_default x y above none is d detects
+
+-- a part whose value is none for the default
+pub set_or_default : {A V : Type 0} {ts us : List Tag} {E : A → A → Type 0} {F : V → V → Type 0} {B : Grammar A} {C : Grammar V} {S M : Members}
+    {P : Pieced V} {f : Encoding A} {G : Fitting A} {c : A → Type 0} (is : A → Bool) → IsOneValue E is → IsNotation true ts E B S f G c →
+    AreSetParts us F C P M → tags_precede ts us ≡ true → share_none ts us ≡ true →
+    AreSetParts (ts ++ us) (SamePart (SameOrDefault is E) F) (PartOf (OrDefaultOf is B) C) (OrDefaultPick is B P) (AnyEither S M)
+set_or_default is one x y above none =
+    or_default_keeps is (λ v w p q. (one w q v).0 p) x.coding (x.begins refl) x.single y above none
 
 -- encodings, one after the other
 pub members_each : (S : List ℕ → Type 0) (ps : List (List ℕ)) → AllByRecursion S ps → (us : List (Unit {0})) × Each (λ u. S) us ps
@@ -639,6 +707,11 @@ module _ {A V : Type 0} {tags_known : Bool} {ts us : List Tag} {E : A → A → 
       AreSetParts (ts ++ us) (SamePart E F) (PartOf (DefaultOf is B) C) (DefaultPick is B P) (AnyEither S M)
   set_default_laws =
       set_default (known_by_tags is_known (first known.first_unambiguous)) (rest known.others_unambiguous) known.after known.none_shared
+
+  pub set_or_default_laws : (is : A → Bool) → IsOneValue E is →
+      AreSetParts (ts ++ us) (SamePart (SameOrDefault is E) F) (PartOf (OrDefaultOf is B) C) (OrDefaultPick is B P) (AnyEither S M)
+  set_or_default_laws is one =
+      set_or_default is one (known_by_tags is_known (first known.first_unambiguous)) (rest known.others_unambiguous) known.after known.none_shared
 
 -- the contents of a SET of parts are elements
 set_joined : {V : Type 0} {ts : List Tag} {E : V → V → Type 0} {C : Grammar V} {P : Pieced V} {M : Members} → AreSetParts ts E C P M → AreJoined (Any (SetOfParts P))

@@ -10,7 +10,7 @@
 //! | `rest` | the elements at the end of an extensible SEQUENCE, after mandatory parts |
 //! | `others`, `possible_default`, `beginning` | these elements after OPTIONAL and DEFAULT parts, and such parts |
 //! | `set_part`, `set_choices` | types that may be a part of a SET |
-//! | `set_parts`, `set_defaults` | SET of parts |
+//! | `set_parts`, `set_defaults`, `set_or_defaults` | SET of parts |
 //! | `empty_lists`, `tested_bits` | the defaults of lists and of BIT STRINGs |
 //! | `tag_names` | the tags of the classes UNIVERSAL and PRIVATE, as types |
 //! | `tagged_fields` | the fields of a SEQUENCE, written under a tag of its own |
@@ -37,6 +37,7 @@ mod possible_default;
 mod rest;
 mod set_choices;
 mod set_defaults;
+mod set_or_defaults;
 mod set_part;
 mod set_parts;
 mod statuses;
