@@ -31,7 +31,7 @@ FLAGS = re.compile(r"A2W_FLAGS\b([^)]*)\)")
 # What is before `::=`, and what of that is a type's.
 HEAD = re.compile(r"^[ \t]*(\S[^\n]*?)?\s*::=", re.MULTILINE)
 TYPE_HEAD = re.compile(r"[A-Z][\w-]*\s*(?:\{[^{}]*\})?")
-LISTED = re.compile(r"^(?P<name>[\w-]+).*?: (?:exact|accepts more|rejects additions)\b.*$", re.MULTILINE)
+LISTED = re.compile(r"^(?P<name>[\w-]+).*?: (?:exact|accepts more|rejects additions|rejects large numbers)\b.*$", re.MULTILINE)
 
 
 @dataclass
@@ -155,7 +155,7 @@ def count_folder(command, counts, files, homes, package):
     for line in own_lines(command, said, own, [it for it in parsed if it not in files]):
         counts.exact += ": exact" in line
         counts.more += ": accepts more" in line
-        counts.closed += ": rejects additions" in line
+        counts.closed += ": rejects" in line
     paths = {str(it): it for it in own}
     for it in PLACE.finditer(said[1]):
         if it["why"] != OTHER and it["file"] in paths:
@@ -193,7 +193,7 @@ def main(program, folder, *options):
     with ThreadPoolExecutor(2) as pool:
         found = list(pool.map(lambda it: count_package(command, it, homes), packages))
     rows = [(package.name, encoding, it) for package, counts in zip(packages, found) for encoding, it in counts.items()]
-    print("\n| Package | Encoding | Files | Parsed | Types exact | Types that accept more | Others that reject additions | Rejected |\n|---|---|---|---|---|---|---|---|")
+    print("\n| Package | Encoding | Files | Parsed | Types exact | Types that accept more | Others that reject additions or large numbers | Rejected |\n|---|---|---|---|---|---|---|---|")
     for name, encoding, it in rows:
         print(f"| `{name}` | {encoding or ''} | {it.files} | {it.parsed} | {it.exact} | {it.more} | {it.closed} | {it.rejected()} |")
     for title, is_in in [("all", lambda it: True), ("all but PER", lambda it: it != "PER")]:

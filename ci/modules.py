@@ -129,8 +129,7 @@ LISTS = "Rows: exact, canonical\nLists: exact\n"
 OPEN = "Open: accepts more\n    `text`: a part with a default may be encoded though it is the default\n"
 SETS_LISTED = """Name: exact, canonical
 ChildInformation: exact, canonical
-PersonnelRecord: accepts more, canonical
-    `children`: a part with a default may be encoded though it is the default
+PersonnelRecord: exact, canonical
 Pick: exact, canonical
 Kind: exact, canonical
 Mixed: exact, canonical

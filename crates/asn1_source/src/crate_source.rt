@@ -2,7 +2,7 @@
 
 use crate::canonical::is_body_canonical;
 use crate::constants::add_constants;
-use crate::differences::{Difference, differences_of, rejects_additions};
+use crate::differences::{Difference, differences_of, large_numbers, rejects_additions};
 use crate::exports::exports_of;
 use crate::head::{ModuleSource, put_differences, put_path};
 use crate::imports::Words;
@@ -295,7 +295,21 @@ pub fn sources_of(
     Ok(files)
 }
 
-// Appends what the list says of a type, after its path: a judgement, and each reason why it accepts more.
+// What a type accepts and rejects. `has_all`: it has no number with a default of any size.
+fn judgement(is_no_more: bool, is_closed: bool, has_all: bool) -> &'static str {
+    match (is_no_more, is_closed, has_all) {
+        (true, false, true) => ": exact",
+        (true, false, false) => ": rejects large numbers",
+        (true, true, true) => ": rejects additions",
+        (true, true, false) => ": rejects additions, rejects large numbers",
+        (false, false, true) => ": accepts more",
+        (false, false, false) => ": accepts more, rejects large numbers",
+        (false, true, true) => ": accepts more, rejects additions",
+        (false, true, false) => ": accepts more, rejects additions, rejects large numbers",
+    }
+}
+
+// Appends what the list says of a type, after its path: a judgement, and each reason why it accepts more or rejects numbers.
 fn put_judgement(
     alloc: Global,
     modules: &[ModuleSource<'_>],
@@ -305,23 +319,23 @@ fn put_judgement(
     out: &mut Text,
 ) {
     let body = &definition.body;
+    let Ok(large) = large_numbers(alloc, definition, name) else {
+        out.cut();
+        return;
+    };
     let is_closed = rejects_additions(body, name.is_open);
-    out.say(match (differences.is_empty(), is_closed) {
-        (true, false) => ": exact",
-        (true, true) => ": rejects additions",
-        (false, false) => ": accepts more",
-        (false, true) => ": accepts more, rejects additions",
-    });
+    out.say(judgement(differences.is_empty(), is_closed, large.is_empty()));
     out.say(if name.is_canonical {
         ", canonical\n"
     } else {
         "\n"
     });
     put_differences(alloc, modules, body, differences, "    ", "\n", out);
+    put_differences(alloc, modules, body, large.as_slice(), "    ", "\n", out);
 }
 
-/// A line for each type: its name, whether it accepts exactly what the module says, more, or not what a later version adds, and whether what BER
-/// reads is written in DER. Below it is a line for each reason why it accepts more.
+/// A line for each type: its name, whether it accepts exactly what the module says, more, or neither what a later version adds nor numbers past 64
+/// bits, and whether what BER reads is written in DER. Below it is a line for each reason why it accepts more, and for each part with such numbers.
 pub fn list_of(alloc: Global, source: &CrateSource<'_, '_>) -> Text {
     let mut out = Text::new(alloc);
     for (place, name) in source.names.defined.iter().enumerate() {

@@ -148,6 +148,11 @@ pub fn has_tested_default(part: &Part<'_>) -> bool {
     }
 }
 
+/// Whether a part has a default that is a number. Its values have at most 64 bits then.
+pub fn has_number_default(part: &Part<'_>) -> bool {
+    matches!(&part.presence, Presence::Default(DefaultValue::Integer(_)))
+}
+
 // Whether a default is tested, and never made.
 fn is_tested(value: &DefaultValue<'_>) -> bool {
     match value {

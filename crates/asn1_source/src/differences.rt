@@ -1,12 +1,13 @@
-//! Where a type differs from its module: why it accepts more, and whether it rejects what a later version adds.
+//! Where a type differs from its module: why it accepts more, and whether it rejects numbers past 64 bits or what a later version adds.
 
-use crate::defaults::has_tested_default;
+use crate::defaults::{has_number_default, has_tested_default, untagged};
 use crate::extension::tail_of;
+use crate::shapes::integer_shape;
 use crate::terms::TypeName;
-use asn1_types::model::{Body, Components, Definition, Loosening, Looser, Place};
+use asn1_types::model::{Body, Components, Definition, Loosening, Looser, Notation, Part, Place};
 use std::alloc::{AllocError, Global};
 
-/// A place where a type accepts more than its module says.
+/// A place where a type accepts more than its module says, or less.
 #[derive(Clone, Copy)]
 pub struct Difference {
     /// The place.
@@ -57,15 +58,15 @@ fn push_untested(
     Ok(())
 }
 
-// Appends the parts of a SET, or at the end of an extensible SEQUENCE, whose default isn't tested there.
+// Appends the parts at the end of an extensible SEQUENCE whose default isn't tested there.
 fn push_defaults(body: &Body<'_>, all: &mut Vec<Difference>) -> Result<(), AllocError> {
     match body {
-        Body::Set(components) => push_untested(components, 0, all),
         Body::Sequence(components) => match tail_of(components) {
             Some(start) => push_untested(components, start, all),
             None => Ok(()),
         },
-        Body::Choice(_) | Body::Enumerated(_) | Body::Value(_) | Body::Alias(_) => Ok(()),
+        Body::Set(_) | Body::Choice(_) | Body::Enumerated(_) | Body::Value(_) | Body::Alias(_) =>
+            Ok(()),
     }
 }
 
@@ -92,6 +93,47 @@ pub fn differences_of(
     if let Some(text) = name.unread {
         let place = definition.place;
         all.push(Difference { place, text })?;
+    }
+    Ok(all)
+}
+
+// Whether numbers of a part are rejected that its module allows: it has a default, for which 64 bits are read.
+fn rejects_large(part: &Part<'_>) -> bool {
+    match untagged(&part.notation) {
+        Notation::Integer(bounds, _) if has_number_default(part) => {
+            integer_shape(*bounds, false)
+                .form
+                .notation
+                .contains("BigInteger")
+        }
+        _ => false,
+    }
+}
+
+// Appends the parts that reject numbers of more than 64 bits.
+fn push_large(components: &Components<'_>, all: &mut Vec<Difference>) -> Result<(), AllocError> {
+    for part in components.parts.iter() {
+        if rejects_large(part) {
+            all.push(Difference {
+                place: part.place,
+                text: "a number past 64 bits is rejected",
+            })?;
+        }
+    }
+    Ok(())
+}
+
+/// Where a type rejects numbers that its module allows, unless it is a SET whose elements are as they came.
+pub fn large_numbers(
+    alloc: Global,
+    definition: &Definition<'_>,
+    name: &TypeName,
+) -> Result<Vec<Difference>, AllocError> {
+    let mut all = Vec::new(alloc);
+    match &definition.body {
+        Body::Sequence(components) => push_large(components, &mut all)?,
+        Body::Set(components) if name.unread.is_none() => push_large(components, &mut all)?,
+        _ => {}
     }
     Ok(all)
 }

@@ -1,6 +1,8 @@
 //! The head of a source: the notation of the type, as the module has it.
 
-use crate::differences::{Difference, inner_differences, rejects_additions, rejects_elements};
+use crate::differences::{
+    Difference, inner_differences, large_numbers, rejects_additions, rejects_elements,
+};
 use crate::terms::TypeName;
 use crate::text::Text;
 use asn1_syntax::tree::{Assignment, Module};
@@ -181,19 +183,25 @@ pub fn put_differences(
     }
 }
 
-// Appends what a type leaves out of its module.
-fn put_looser(
+// Appends how a type differs from its module, after a text that says it.
+fn put_reasons(
     alloc: Global,
     modules: &[ModuleSource<'_>],
     body: &Body<'_>,
-    differences: &[Difference],
+    heading: &str,
+    differences: Result<Vec<Difference>, AllocError>,
     out: &mut Text,
 ) {
+    let Ok(differences) = differences else {
+        out.cut();
+        return;
+    };
     if differences.is_empty() {
         return;
     }
-    out.say("//!\n//! It accepts more than the module says:\n//!\n");
-    put_differences(alloc, modules, body, differences, "//! - ", ".\n", out);
+    out.say(heading);
+    let all = differences.as_slice();
+    put_differences(alloc, modules, body, all, "//! - ", ".\n", out);
 }
 
 // Whether earlier versions leave out parts that are mandatory in this one.
@@ -249,6 +257,12 @@ fn put_unread(name: &TypeName, out: &mut Text) {
     }
 }
 
+// What is before the reasons why a type accepts more.
+const LOOSER: &str = "//!\n//! It accepts more than the module says:\n//!\n";
+
+// What is before the parts of which numbers are rejected.
+const LARGE: &str = "//!\n//! It rejects numbers that the module allows:\n//!\n";
+
 /// Appends the head of the source of a type with this name.
 pub fn put_head(
     alloc: Global,
@@ -272,16 +286,9 @@ pub fn put_head(
     out.say("//! ```\n");
     put_unread(name, out);
     out.say(missing_text(&definition.body, name.is_open));
-    match inner_differences(alloc, definition) {
-        Ok(differences) => {
-            put_looser(
-                alloc,
-                modules,
-                &definition.body,
-                differences.as_slice(),
-                out,
-            )
-        }
-        Err(_) => out.cut(),
-    }
+    let body = &definition.body;
+    let more = inner_differences(alloc, definition);
+    put_reasons(alloc, modules, body, LOOSER, more, out);
+    let large = large_numbers(alloc, definition, name);
+    put_reasons(alloc, modules, body, LARGE, large, out);
 }

@@ -44,7 +44,7 @@ Rattle.yasna_notation_types.specs.Others: other_may others_laws others_within po
 Rattle.yasna_notation_types.specs.Others: possible_within
 Rattle.yasna_notation_types.specs.Rest: rest_laws
 Rattle.yasna_notation_types.specs.TestedBits: is_bit_string one_bits
-Rattle.yasna_notation_types.specs.SetParts: no_set_parts set_lawful set_option set_part set_with_default set_writes
+Rattle.yasna_notation_types.specs.SetParts: no_set_parts set_lawful set_option set_or_default set_part set_with_default set_writes
 Rattle.yasna_notation.specs.contracts.simple.BoolNotation.TheImpl.Laws: lawful-law=flag_law non_empty-law=flag_non_empty
 Rattle.yasna_notation.specs.contracts.canonical.BoolCanonicalNotation.TheImpl.Laws: written-law=flag_written
 Rattle.yasna_notation.specs.contracts.simple.UnitNotation.TheImpl.Laws: lawful-law=null_law non_empty-law=null_non_empty

@@ -38,6 +38,7 @@ mod text;
 mod type_imports;
 mod type_source;
 mod value_source;
+mod weights;
 mod words;
 
 pub use crate_source::{crate_line, list_of, names_of, sources_of};

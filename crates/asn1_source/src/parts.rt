@@ -11,7 +11,9 @@
 //! | `@E` of a tested one | the term that the values that pass the test are one value |
 //! | `@S` | the term that values that equal the default are detected alike |
 
-use crate::defaults::{default_shape, default_texts, has_tested_default, untagged};
+use crate::defaults::{
+    default_shape, default_texts, has_number_default, has_tested_default, untagged,
+};
 use crate::extension::put_tail_law;
 use crate::sets::Listed;
 use crate::terms::{Aspect, TypeNames, put_notation, put_shaped, put_under};
@@ -215,7 +217,7 @@ pub static SET_LAW: Listing = Listing {
     last: "",
     end: "no_set_parts",
     close: " refl refl)",
-    tested: ["", ""],
+    tested: ["(set_or_default @I @E @L.own ", " refl refl)"],
     possible: "",
     possible_default: "",
     possible_close: "",
@@ -245,8 +247,6 @@ pub struct Field<'p, 'a> {
     pub name: &'p [u8],
     /// The tag that is written around its notation, though it is its own.
     pub under: Option<TagLayer>,
-    /// Whether it is a part of a SET.
-    pub in_set: bool,
 }
 
 /// Parts of a SEQUENCE or a SET, and the names of their fields.
@@ -282,7 +282,6 @@ impl<'p, 'a> Fields<'p, 'a> {
                 part,
                 name: name.as_slice(),
                 under: listed.under,
-                in_set: self.is_set,
             }),
             _ => None,
         }
@@ -351,15 +350,11 @@ fn listed_at_end(listing: &'static Listing, part: &Part<'_>) -> &'static str {
     }
 }
 
-// How another part is listed, and what closes it. A default that is tested elsewhere is none in a SET.
+// How another part is listed, and what closes it.
 fn listed(listing: &'static Listing, field: &Field<'_, '_>) -> [&'static str; 2] {
     let part = field.part;
     if has_tested_default(part) {
-        return if field.in_set {
-            [listing.optional, listing.close]
-        } else {
-            listing.tested
-        };
+        return listing.tested;
     }
     if is_last(part) {
         return [listing.last, ""];
@@ -440,7 +435,13 @@ fn put_default(mark: u8, field: &Field<'_, '_>, names: &TypeNames, out: &mut Tex
 pub fn put_field_text(aspect: Aspect, field: &Field<'_, '_>, names: &TypeNames, out: &mut Text) {
     let mut inner = out.another();
     let part = field.part;
-    put_notation(&part.notation, aspect, has_default(part), names, &mut inner);
+    put_notation(
+        &part.notation,
+        aspect,
+        has_number_default(part),
+        names,
+        &mut inner,
+    );
     match &field.under {
         Some(layer) => put_under(&[*layer], aspect, inner.as_slice(), out),
         None => out.put(inner.as_slice()),

@@ -6,9 +6,10 @@ use crate::parts::{Fields, HELD};
 use crate::sequence_source::{RestName, first_of, set_all, set_references, set_run_texts};
 use crate::template::Fragments;
 use crate::templates::{CANONICAL_PARTS_IMPL, PARTS_IMPLS, SET_PARTS_IMPL};
-use crate::terms::TypeName;
+use crate::terms::{TypeName, TypeNames};
 use crate::text::Text;
 use crate::type_source::{CrateSource, Files, put_source, rest_clauses, rest_code, set_clauses};
+use crate::weights::are_light;
 use std::alloc::{AllocError, Global};
 
 // The most parts of one file, and the most among them that may be absent.
@@ -26,7 +27,7 @@ fn fits(count: usize, absent: usize, is_tagged: bool) -> bool {
 }
 
 /// How many of these parts one file holds. Those at the end of an extensible SEQUENCE that may be absent are in one file.
-pub fn first_run(fields: &Fields<'_, '_>) -> usize {
+pub fn first_run(fields: &Fields<'_, '_>, names: &TypeNames) -> usize {
     let all = fields.count();
     let tail = match fields.tail {
         Some(start) => start,
@@ -39,14 +40,17 @@ pub fn first_run(fields: &Fields<'_, '_>) -> usize {
         if may_be_absent(field.part) {
             absent = absent.saturating_add(1);
         }
-        if !fits(count.saturating_add(1), absent, fields.is_tagged) {
+        let next = count.saturating_add(1);
+        let is_light = count == 0 || are_light(fields, next, names);
+        if !is_light || !fits(next, absent, fields.is_tagged) {
             return count;
         }
-        count = count.saturating_add(1);
+        count = next;
     }
     let more = all.saturating_sub(tail);
     let (whole, absent) = (count.saturating_add(more), absent.saturating_add(more));
-    if count == 0 || fits(whole, absent, fields.is_tagged) {
+    let is_light = more == 0 || are_light(fields, all, names);
+    if count == 0 || (is_light && fits(whole, absent, fields.is_tagged)) {
         all
     } else {
         count
@@ -141,11 +145,15 @@ fn finished(
 }
 
 // How many parts each file holds.
-fn counts_of(alloc: Global, fields: &Fields<'_, '_>) -> Result<Vec<usize>, AllocError> {
+fn counts_of(
+    alloc: Global,
+    fields: &Fields<'_, '_>,
+    names: &TypeNames,
+) -> Result<Vec<usize>, AllocError> {
     let mut counts = Vec::new(alloc);
     let mut start = 0usize;
     for _ in 0..fields.count() {
-        let count = first_run(&fields.from(start));
+        let count = first_run(&fields.from(start), names);
         if counts.push(count).is_err() {
             return Err(AllocError);
         }
@@ -199,7 +207,7 @@ pub fn put_rests(
     fields: &Fields<'_, '_>,
     files: &mut Files,
 ) -> Result<RestName, AllocError> {
-    let counts = counts_of(alloc, fields)?;
+    let counts = counts_of(alloc, fields, source.names)?;
     let mut rest = no_rest(alloc);
     for back in 1..counts.len() {
         let place = counts.len() - back;

@@ -141,12 +141,10 @@ fn put_tested_type(field: &Field<'_, '_>, names: &TypeNames, out: &mut Text) -> 
     true
 }
 
-/// Appends the types of the values of the defaults that are tested, but for those of a SET and at the end of an extensible SEQUENCE. Returns whether
-/// there are any.
+/// Appends the types of the values of the defaults that are tested, but for those at the end of an extensible SEQUENCE. Returns whether there are any.
 pub fn put_tested_types(fields: &Fields<'_, '_>, names: &TypeNames, out: &mut Text) -> bool {
     let count = match fields.tail {
         Some(start) => start,
-        None if fields.is_set => 0,
         None => fields.count(),
     };
     let mut is_there = false;

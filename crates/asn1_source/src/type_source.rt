@@ -284,8 +284,8 @@ fn add_constructed(
     let has_rest = !rest.name.is_empty();
     fragments.set_octets(b'y', rest.file.as_slice());
     fragments.set_octets(b'Y', rest.name.as_slice());
-    let count = first_run(&fields);
     let names = source.names;
+    let count = first_run(&fields, names);
     set_sequence(alloc, &mut fragments, count, &rest, &fields, of.tags, names);
     set_default_types(alloc, &mut fragments, source, &fields.first(count))?;
     fragments.set_filled(b'1', set_clauses(has_rest && of.is_set));

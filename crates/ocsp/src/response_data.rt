@@ -8,6 +8,10 @@
 //!     responses           SEQUENCE OF SingleResponse,
 //!     responseExtensions  [1] Extensions OPTIONAL }
 //! ```
+//!
+//! It rejects numbers that the module allows:
+//!
+//! - `version`: a number past 64 bits is rejected.
 ghost use Rattle.std.specs.Prelude.{◌≡◌, ◌↔◌, IsTrue, pos, refl};
 ghost use Rattle.std.specs.Ordering.{int_eq};
 ghost use Rattle.std.proofs.Common.{arith};

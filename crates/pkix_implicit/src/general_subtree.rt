@@ -6,6 +6,10 @@
 //!     minimum  [0] BaseDistance DEFAULT 0,
 //!     maximum  [1] BaseDistance OPTIONAL }
 //! ```
+//!
+//! It rejects numbers that the module allows:
+//!
+//! - `minimum`: a number past 64 bits is rejected.
 ghost use Rattle.std.specs.Prelude.{◌≡◌, ◌↔◌, IsTrue, int_le, nat_eq, pos, refl};
 ghost use Rattle.std.proofs.Common.{arith};
 ghost use Rattle.yasna_base.specs.Integer.{twos};

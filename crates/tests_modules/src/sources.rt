@@ -188,7 +188,7 @@ static LONG_CHOICES: [Row; 3] = [
 ];
 
 // An extensible SEQUENCE: elements after mandatory parts, after others, and between parts.
-static SEQUENCES: [Row; 3] = [
+static SEQUENCES: [Row; 5] = [
     (
         b"M DEFINITIONS ::= BEGIN Head ::= SEQUENCE { version INTEGER (0..9), ... } END",
         "src/head.rt",
@@ -203,6 +203,16 @@ static SEQUENCES: [Row; 3] = [
         b"M DEFINITIONS ::= BEGIN Head ::= SEQUENCE { id NULL, ..., ..., name UTF8String } END",
         "src/head.rt",
         "//! An element that a later version may add is rejected.\n",
+    ),
+    (
+        b"M DEFINITIONS ::= BEGIN Address ::= SEQUENCE { p [0] OCTET STRING OPTIONAL, s [1] OCTET STRING OPTIONAL, t [2] OCTET STRING OPTIONAL, n [3] SET SIZE (1..MAX) OF OCTET STRING } END",
+        "src/address_parts2.rt",
+        "type Each = (Explicit<Context<3>, Bounded<SetOf<Vec<u8>>, NotEmpty>>, ());\n",
+    ),
+    (
+        b"M DEFINITIONS ::= BEGIN Address ::= SEQUENCE { p [0] OCTET STRING OPTIONAL, s [1] OCTET STRING OPTIONAL, t [2] OCTET STRING OPTIONAL, n [3] OCTET STRING } END",
+        "src/address.rt",
+        "(Optional<Explicit<Context<2>, Vec<u8>>>, (Explicit<Context<3>, Vec<u8>>, ()))));\n",
     ),
 ];
 
@@ -312,15 +322,18 @@ static TESTED: [Row; 6] = [
     (
         b"M DEFINITIONS ::= BEGIN Label ::= SEQUENCE { id NULL, text UTF8String DEFAULT \"a\", ... } Badge ::= SET { text UTF8String DEFAULT \"a\" } END",
         "list",
-        "Label: accepts more\n    `text`: a part with a default may be encoded though it is the default\nBadge: accepts more, canonical\n    `text`: a part with a default may be encoded though it is the default\n",
+        "Label: accepts more\n    `text`: a part with a default may be encoded though it is the default\nBadge: exact, canonical\n",
     ),
 ];
 
 const GROUP: &[u8] =
     b"M DEFINITIONS IMPLICIT TAGS ::= BEGIN Rows ::= [1] SEQUENCE OF NULL Group ::= SEQUENCE { rows Rows DEFAULT {}, kinds [0] EXPLICIT SET (SIZE (0..4)) OF INTEGER (0..9) DEFAULT {}, flags BIT STRING { first(0), last(9) } DEFAULT { last }, mask [2] BIT STRING DEFAULT '101'B } END";
 
-// Defaults of lists and bits.
-static TESTED_LISTS: [Row; 5] = [
+const FOLDER: &[u8] =
+    b"M DEFINITIONS IMPLICIT TAGS ::= BEGIN Rows ::= [1] SEQUENCE OF NULL Folder ::= SET { rows Rows DEFAULT {}, heights SEQUENCE OF NULL DEFAULT {}, text UTF8String DEFAULT \"a\", number INTEGER } END";
+
+// Defaults of lists and bits, and those of a SET.
+static TESTED_LISTS: [Row; 7] = [
     (
         GROUP,
         "src/group.rt",
@@ -340,15 +353,25 @@ static TESTED_LISTS: [Row; 5] = [
     (
         b"M DEFINITIONS ::= BEGIN Group ::= SEQUENCE { id NULL, rows SEQUENCE OF NULL DEFAULT {}, ... } Badge ::= SET { rows SEQUENCE OF NULL DEFAULT {}, flags BIT STRING DEFAULT ''B } END",
         "list",
-        "Group: accepts more\n    `rows`: a part with a default may be encoded though it is the default\nBadge: accepts more\n    `rows`: a part with a default may be encoded though it is the default\n    `flags`: a part with a default may be encoded though it is the default\n",
+        "Group: accepts more\n    `rows`: a part with a default may be encoded though it is the default\nBadge: exact\n",
+    ),
+    (
+        FOLDER,
+        "src/folder.rt",
+        "type Parts = (Implicit<Universal<2>, BigInteger>, OrDefault<Implicit<Universal<12>, String>, TestedText<TextDefault>, OrDefault<Implicit<Universal<16>, SequenceOf<()>>, EmptyList, OrDefault<Implicit<Context<1>, Rows>, RowsDefault, ()>>>);\n",
+    ),
+    (
+        FOLDER,
+        "list",
+        "Rows: exact, canonical\nFolder: exact, canonical\n",
     ),
 ];
 
 const HEADS: &[u8] =
     b"M DEFINITIONS ::= BEGIN Head ::= SEQUENCE { id NULL, ..., ..., name UTF8String } Tail ::= SEQUENCE { id NULL, ... } END";
 
-// The lines of types that accept more than the module says, and of those that reject what a later version adds.
-static LISTED: [Row; 13] = [
+// The lines of types that accept more than the module says, and of those that reject numbers or what a later version adds.
+static LISTED: [Row; 16] = [
     (
         b"M DEFINITIONS ::= BEGIN Name ::= CHOICE { text BMPString (SIZE (1..8)), id NULL, other [0] BMPString (SIZE (9)) } END",
         "list",
@@ -413,6 +436,21 @@ static LISTED: [Row; 13] = [
         b"M DEFINITIONS ::= BEGIN Shape ::= CHOICE { number INTEGER, ..., flag BOOLEAN, name UTF8String } END",
         "list",
         "Shape: exact\n",
+    ),
+    (
+        b"M DEFINITIONS ::= BEGIN Salt ::= SEQUENCE { size INTEGER DEFAULT 20, count [0] INTEGER (0..9) DEFAULT 1 } END",
+        "list",
+        "Salt: rejects large numbers, canonical\n    `size`: a number past 64 bits is rejected\n",
+    ),
+    (
+        b"M DEFINITIONS ::= BEGIN Salt ::= SET { size INTEGER (0..MAX) DEFAULT 20 } END",
+        "src/salt.rt",
+        "//! It rejects numbers that the module allows:\n//!\n//! - `size`: a number past 64 bits is rejected.\n",
+    ),
+    (
+        b"M DEFINITIONS ::= BEGIN Rows ::= SEQUENCE { rows SEQUENCE OF INTEGER DEFAULT {} } END",
+        "src/rows.rt",
+        "type Parts = OrDefault<SequenceOf<BigInteger>, EmptyList, ()>;\n",
     ),
 ];
 
