@@ -41,7 +41,7 @@ ORDER = {
         "Laws": "one_encoding one_encoding_cer one_der_encoding set_of_is_read set_of_sets_is_read set_of_is_written law_functions::*",
     },
     "yasna_notation": {
-        "Your own types": "DefinedType Message Represents Encoded read_as Notation CanonicalNotation",
+        "Your own types": "DefinedType Message Represents Encoded read_as read_parts_as Notation CanonicalNotation",
         "SEQUENCE and SET": "Sequence Parts Optional Default DefaultValue False Number Last SequenceOf SetOf PartsBy CanonicalParts"
         " WithFirst read_parts_with_first",
         "Parts of your own notations": "write_optional prepend_optional optional_len write_unless_default prepend_unless_default unless_default_len"
@@ -86,6 +86,7 @@ ANCHORS = {
     "read_der": "raw-elements",
     "read_with_buffer": "read_with_buffer",
     "read_as": "types-from-a-module",
+    "read_parts_as": "types-from-a-module",
     "read_parts_with_first": "types-from-a-module",
     "read_*": "typed-reads",
     "lookahead_tag": "lookahead_tag",

@@ -8,7 +8,8 @@
 //! | `shape` | `OpenChoice` |
 //! | `header` | `NamedBits`, `Rest`, as docs/NOTATION.md shows it |
 //! | `profile` | `Others`, `Possible`, `PossibleDefault` |
-//! | `person`, `entry` | `Set` |
+//! | `person` | `Set` |
+//! | `entry` | `Set`, and parts by one name |
 //! | `principal_name` | `GeneralString` |
 //! | `badge` | strings that are octets, `Private` |
 //! | `ticket` | fields under an EXPLICIT tag |

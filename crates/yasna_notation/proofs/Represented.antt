@@ -3,8 +3,11 @@ use Rattle.std.proofs.Common.{◌≡◌, ◌∷◌, [], List, Bool, true, Option
 use Rattle.yasna_base.specs.declared.error.ASN1Error.{ASN1Error}
 use Rattle.yasna_base.specs.declared.tag.Tag.{Tag}
 use Rattle.yasna_base.specs.Grammar.{Grammar, Members}
+use Rattle.yasna_reader.specs.Decodes.{DecodesContents}
+use Rattle.yasna_reader.specs.Parse.{unless_failed}
 use Rattle.yasna_reader.specs.State.{Reading, untagged}
 use Rattle.yasna_notation.specs.Notation.{DecodesAs, ReadsAs}
+use Rattle.yasna_notation.specs.Parts.{ReadsContents}
 
 module _ {U A : Type 0} (f : U → A) (tags_known : Bool) (ts : List Tag) (may_allocate : Bool) (B : Grammar A) (S : Members) (s : Reading) where
   decodes_for : (u : U) (v : A) (s' : Reading) → f u ≡ v → DecodesAs tags_known ts may_allocate B S s (Ok v) s' →
@@ -60,3 +63,36 @@ module _ {U A : Type 0} (f : U → A) (tags_known : Bool) (ts : List Tag) (retag
   pub failed_for : (e : ASN1Error) (r : Result A ASN1Error) (s' : Reading) → r ≡ Err e → ReadsAs tags_known ts retagged may_allocate B S s r s' →
       ReadsAs {A = U} tags_known ts retagged may_allocate (λ t m n w b. B t m n (f w) b) S s (Err e) s'
   failed_for e r s' was h = represented_by_none e s' (subst (λ x. ReadsAs tags_known ts retagged may_allocate B S s x s') was h)
+
+module _ {U A : Type 0} (f : U → A) (may_allocate : Bool) (C : Grammar A) (S : Members) (s : Reading) where
+  read_or_failed : (u : U) (v : A) (failed : Option ASN1Error) (s' : Reading) → f u ≡ v →
+      DecodesContents may_allocate C S s (unless_failed failed (Ok v)) s' →
+      DecodesContents may_allocate (λ m n w c. C m n (f w) c) S s (unless_failed failed (Ok u)) s'
+  read_or_failed u v None s' is h =
+      let k = h.parsed in
+      record {
+        parsed = record {
+          prefix = k.prefix;
+          rest = k.rest;
+          joined = k.joined;
+          member = subst (λ w. C s.mode s.levels w k.prefix) (sym is) k.member;
+          left = k.left;
+        };
+        ends = h.ends;
+      }
+  read_or_failed u v (Some e) s' is h = h
+
+  still_failed : (e : ASN1Error) (failed : Option ASN1Error) (s' : Reading) → DecodesContents {A = A} may_allocate C S s (unless_failed failed (Err e)) s' →
+      DecodesContents {A = U} may_allocate (λ m n w c. C m n (f w) c) S s (unless_failed failed (Err e)) s'
+  still_failed e None s' h = h
+  still_failed e (Some d) s' h = h
+
+  -- a value that represents the one that contents encode
+  pub contents_for : (u : U) (v : A) (r : Result A ASN1Error) (s' : Reading) → r ≡ Ok v → f u ≡ v → ReadsContents may_allocate C S s r s' →
+      ReadsContents may_allocate (λ m n w c. C m n (f w) c) S s (Ok u) s'
+  contents_for u v r s' was is h = read_or_failed u v s'.failed s' is (subst (λ x. ReadsContents may_allocate C S s x s') was h)
+
+  -- no value, where the reading of the contents returned an Err
+  pub no_contents_for : (e : ASN1Error) (r : Result A ASN1Error) (s' : Reading) → r ≡ Err e → ReadsContents may_allocate C S s r s' →
+      ReadsContents {A = U} may_allocate (λ m n w c. C m n (f w) c) S s (Err e) s'
+  no_contents_for e r s' was h = still_failed e s'.failed s' (subst (λ x. ReadsContents may_allocate C S s x s') was h)

@@ -139,7 +139,7 @@ module _ {A V : Type 0} {tags_known others : Bool} {ts us : List Tag} {E : A →
       }
 
 -- contents whose values represent those of others satisfy the laws
-contents_along : {U A : Type 0} {E : A → A → Type 0} {C : Grammar A} {S : Members} (f : U → A) → IsContentsCoding E C S →
+pub contents_along : {U A : Type 0} {E : A → A → Type 0} {C : Grammar A} {S : Members} (f : U → A) → IsContentsCoding E C S →
     IsContentsCoding (λ v w. E (f v) (f w)) (λ m n v c. C m n (f v) c) S
 contents_along f x = record {
   meaning = record {
@@ -153,6 +153,18 @@ contents_along f x = record {
     deeper = λ m n k v. x.meaning.deeper m n k (f v);
   };
   ends = x.ends;
+}
+
+-- parts whose values represent those of others satisfy the laws
+pub represented_parts : {U A : Type 0} {tags_known : Bool} {ts : List Tag} {E : A → A → Type 0} {C : Grammar A} {S : Members} {encoding : Encoding A}
+    {Fits : Fitting A} {Can : A → Type 0} (f : U → A) → AreParts tags_known ts E C S encoding Fits Can →
+    AreParts tags_known ts (λ v w. E (f v) (f w)) (λ m n v c. C m n (f v) c) S (λ m v. encoding m (f v)) (λ m n v. Fits m n (f v)) (λ v. Can (f v))
+represented_parts f x = record {
+  coding = contents_along f x.coding;
+  begins = x.begins;
+  in_range = x.in_range;
+  joined = x.joined;
+  exact = exact_along f x.exact;
 }
 
 -- a part at the end that may be omitted

@@ -49,7 +49,7 @@ pub use first_bytes::{WithFirst, read_parts_with_first};
 pub use implicit_tags::Implicit;
 pub use last::Last;
 pub use lists::{SequenceOf, items_len, prepend_items, write_items};
-pub use messages::{Message, Represents, read_as};
+pub use messages::{Message, Represents, read_as, read_parts_as};
 pub use notation::Notation;
 pub use parts::{Optional, Parts, PartsBy, optional_len, prepend_optional, write_optional};
 pub use sequences::Sequence;

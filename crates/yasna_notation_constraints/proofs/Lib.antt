@@ -1,4 +1,4 @@
 mod Saturating
-mod ReadingDefaults
+pub mod ReadingDefaults
 mod TestedTexts
 mod Signs

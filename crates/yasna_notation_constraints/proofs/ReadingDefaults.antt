@@ -1,6 +1,6 @@
 -- What reading a part does whose value is none for the default.
 use Rattle.std.proofs.Common.{◌≡◌, ◌∷◌, [], ℕ, List, Bool, true, false, not, Option, Some, None, Result, Ok, Err, inl, inr, refl, ap}
-use Rattle.std.proofs.lemmas.Bool.{and_parts}
+use Rattle.std.proofs.lemmas.Bool.{and_parts, not-true}
 use Rattle.std.specs.Prelude.{◌&&◌, ◌⊎◌}
 use Rattle.yasna_base.specs.declared.error.ASN1Error.{ASN1Error}
 use Rattle.yasna_base.specs.declared.error.ASN1ErrorKind.TheVariants.{Invalid}
@@ -51,14 +51,11 @@ first_as {A} {may_allocate} {B} {D} {S} {T} {Q} more among first = record { deco
       memory = h.memory;
     }
 
-negated : (b : Bool) → not b ≡ true → b ≡ false
-negated true e = absurd (cc)
-negated false e = refl
-
-accepted : {A : Type 0} (is : A → Bool) (m : BERMode) (v : A) → accepted_by is m v ≡ true → TakesDefault m ⊎ (is v ≡ false)
+-- a value that the mode accepts isn't the default, or the mode takes defaults
+pub accepted : {A : Type 0} (is : A → Bool) (m : BERMode) (v : A) → accepted_by is m v ≡ true → TakesDefault m ⊎ (is v ≡ false)
 accepted is Ber v e = inl tt
-accepted is Der v e = inr (negated (is v) e)
-accepted is Cer v e = inr (negated (is v) e)
+accepted is Der v e = inr (not-true (is v) e)
+accepted is Cer v e = inr (not-true (is v) e)
 
 is_accepted : {A : Type 0} (is : A → Bool) (m : BERMode) (v : A) → TakesDefault m ⊎ (is v ≡ false) → accepted_by is m v ≡ true
 is_accepted is Ber v e = refl

@@ -4,6 +4,7 @@ pub mod Given
 pub mod Readings
 pub mod BitEnds
 pub mod SetReading
+pub mod RepresentedSets
 pub mod Sets
 pub mod Tails
 pub mod Possibles

@@ -1,6 +1,6 @@
 -- What reading an extensible CHOICE does.
 use Rattle.std.proofs.Common.{◌≡◌, ◌++◌, [], ℕ, List, Bool, true, false, not, Option, Some, None, Result, Ok, Err, inl, inr, refl, sym, ap, subst}
-use Rattle.std.proofs.lemmas.Bool.{and_parts, and_from}
+use Rattle.std.proofs.lemmas.Bool.{and_parts, and_from, not-true}
 use Rattle.std.specs.List.{list_any}
 use Rattle.yasna_base.specs.declared.error.ASN1Error.{ASN1Error}
 use Rattle.yasna_base.specs.declared.models.tagged_der_value.TaggedDerValue.{TaggedDerValue}
@@ -27,6 +27,7 @@ use Rattle.yasna_notation.specs.declared.choices.Either.TheVariants.{First, Seco
 use Rattle.yasna_notation.specs.Choices.{ReadsFound, sides}
 use Rattle.yasna_notation.specs.Notation.{IsNotation, ReadsAs}
 use Rattle.yasna_notation.proofs.OneTag.{any_read}
+use Rattle.yasna_notation_constraints.specs.TestedDefaults.{true_not_false}
 use Rattle.yasna_notation_types.specs.OpenChoice.{EncodesRawElement, EncodesOther, is_other, any_begins, open_laws}
 
 repeats_seen : {A U : Type 0} (f : A → U) (s : Reading) (x : Result A ASN1Error) (s' : Reading) → RepeatsError s x s' → RepeatsError s (seen f x) s'
@@ -36,15 +37,11 @@ repeats_seen f s (Err d) s' h e failed =
     let same : d ≡ e = let y = x.0 in cc in
     (ap (λ z. Err z) same, x.1)
 
-not_both : (b : Bool) → b ≡ true → not b ≡ true → ⊥
-not_both true e f = absurd (cc)
-not_both false e f = absurd (cc)
-
 -- a tag that is none of these isn't among them
 not_among : (ts : List Tag) (t u : Tag) → t ≡ u → list_any (is_tag t) ts ≡ true → is_other ts u ≡ true → ⊥
 not_among ts t u e is other =
-    not_both (list_any (is_tag u) ts) (subst (λ z. list_any (is_tag z) ts ≡ true) e is)
-    (and_parts (not (list_any (is_tag u) ts)) true other).0
+    true_not_false (list_any (is_tag u) ts) (subst (λ z. list_any (is_tag z) ts ≡ true) e is)
+    (not-true (list_any (is_tag u) ts) (and_parts (not (list_any (is_tag u) ts)) true other).0)
 
 is_none : (ts : List Tag) (t u : Tag) → t ≡ u → list_any (is_tag t) ts ≡ false → is_other ts u ≡ true
 is_none ts t u e is =

@@ -33,7 +33,8 @@ use Rattle.yasna_reader.proofs.NextTag.{looked}
 use Rattle.yasna_reader.proofs.OptionalParts.{IsFirstDecoder, NoMatchBefore, option_by}
 use Rattle.yasna_notation.specs.Notation.{IsNotation, ReadsAs}
 use Rattle.yasna_notation.specs.Parts.{ReadsContents}
-use Rattle.yasna_notation_types.specs.Beginning.{BeginWithin, StartsWithin, none_may, within_unambiguous, fails, true_not_false}
+use Rattle.yasna_notation_constraints.specs.TestedDefaults.{true_not_false}
+use Rattle.yasna_notation_types.specs.Beginning.{BeginWithin, StartsWithin, none_may, within_unambiguous, fails}
 use Rattle.yasna_notation_types.specs.OpenChoice.{is_other}
 use Rattle.yasna_notation_types.specs.Others.{BeginsOther, OthersOf, AnyOthers, LooksFor, elements_start, possible_known}
 

@@ -1,6 +1,7 @@
 -- What reading the parts of a SET does: each is chosen by its tag from the elements that were found.
 use Rattle.std.proofs.Common.{◌≡◌, ◌∷◌, ◌++◌, [], ◌<◌, ◌≤◌, ℕ, zero, suc, List, Bool, true, false, Option, Some, None, Result, Ok, Err, inl, inr}
 use Rattle.std.proofs.Common.{length, not, refl, sym, ap, ap₂, subst, ◌∙◌, append-nil, length-append, take, drop, arith}
+use Rattle.std.proofs.lemmas.Bool.{not-false}
 use Rattle.std.specs.Borrow.{MutBor}
 use Rattle.std.specs.Fn.{Once, FnOnceReturnsAtMut}
 use Rattle.std.specs.List.{AllByRecursion, Contains}
@@ -42,9 +43,10 @@ use Rattle.yasna_notation.proofs.Contents.{paired}
 use Rattle.yasna.proofs.Closures.{by_run}
 use Rattle.yasna_notation.specs.Elements.{AreSingleElements}
 use Rattle.yasna_notation_constraints.specs.OrDefault.{accepted_by}
-use Rattle.yasna_notation_constraints.specs.TestedDefaults.{IsOneValue, some_passes}
+use Rattle.yasna_notation_constraints.proofs.ReadingDefaults.{accepted as is_taken}
+use Rattle.yasna_notation_constraints.specs.TestedDefaults.{IsOneValue, some_passes, true_not_false}
 use Rattle.yasna_notation_types.specs.SetParts.{Pieced, PickOf, OptionPick, DefaultPick, OrDefaultPick, OmitsDefault, PickMaybe, PickUnless, AreSetParts}
-use Rattle.yasna_notation_types.specs.SetParts.{tags_precede, all_others, pick_once, others_without, tagged, omits_default, not_both, not_true}
+use Rattle.yasna_notation_types.specs.SetParts.{tags_precede, all_others, pick_once, others_without, tagged, omits_default}
 use Rattle.yasna_notation_types.specs.SetReading.{encodings_of, AreFound, set_result, ReadsPicks, ReadsSetParts, Chose, ChoseNone, ChoseWrong, ChosenIs, ReadsSetPart, value_or_default, as_second}
 
 -- an element was read to its end
@@ -585,20 +587,11 @@ accepted {A} is d Cer v w e = by_test (is v) refl e
     by_test true f e = absurd (cc)
     by_test false f e = (let g : v ≡ w = cc in g, inr f)
 
-not_false : (b : Bool) → not b ≡ false → b ≡ true
-not_false true e = refl
-not_false false e = absurd (cc)
-
--- whether a value that was found is rejected, where the default has no value of its own
+-- a value that the mode rejects is the default, and the mode takes none
 untaken : {A : Type 0} (is : A → Bool) (m : BERMode) (v : A) → accepted_by (some_passes is) m (Some v) ≡ false → (TakesDefault m → ⊥) × (is v ≡ true)
 untaken is Ber v e = absurd (cc)
-untaken is Der v e = (λ t. t, not_false (is v) e)
-untaken is Cer v e = (λ t. t, not_false (is v) e)
-
-taken_if : {A : Type 0} (is : A → Bool) (m : BERMode) (v : A) → accepted_by (some_passes is) m (Some v) ≡ true → TakesDefault m ⊎ (is v ≡ false)
-taken_if is Ber v e = inl tt
-taken_if is Der v e = inr (not_true (is v) e)
-taken_if is Cer v e = inr (not_true (is v) e)
+untaken is Der v e = (λ t. t, not-false (is v) e)
+untaken is Cer v e = (λ t. t, not-false (is v) e)
 
 -- an omitted part is accepted
 none_taken : {A : Type 0} (is : A → Bool) (m : BERMode) → accepted_by (some_passes is) m None ≡ true
@@ -606,11 +599,11 @@ none_taken is Ber = refl
 none_taken is Der = refl
 none_taken is Cer = refl
 
--- what equals the default is the default
+-- what equals a value that is the default is the default too
 pub detected : {A : Type 0} {E : A → A → Type 0} (is : A → Bool) (d : A) → DetectsDefault E is d → IsSame E → (v w : A) → E v w → is v ≡ true → is w ≡ true
 detected is d detects equal v w same e = (detects w).1 (equal.transitive w v d (equal.symmetric v w same) ((detects v).0 e))
 
--- and so does what equals one of the values that pass a test, if these are one value
+-- what equals one of the values that pass a test passes it too, if these are one value
 pub one_passes : {A : Type 0} {E : A → A → Type 0} (is : A → Bool) → IsOneValue E is → IsSame E → (v w : A) → E v w → is v ≡ true → is w ≡ true
 one_passes is one equal v w same e = (one v e w).1 (equal.symmetric v w same)
 
@@ -653,7 +646,7 @@ module _ {A V : Type 0} {ts us : List Tag} {E : A → A → Type 0} {F : V → V
       let also = passes v u.0 same e in
       elim p.here.1 [
         | inl t ↦ never t
-        | inr f ↦ not_both (is u.0) also f
+        | inr f ↦ true_not_false (is u.0) also f
       ]
   not_default v i never e u (inr p) = not_without z begins whole y above none c c1 u.1 i.before i.one i.after i.whole i.has_tag p.0
 
@@ -750,7 +743,7 @@ module _ {A V : Type 0} {ts us : List Tag} {E : A → A → Type 0} {F : V → V
         (sym (result_unread z begins whole y above none c c1 e (ap (λ (w : Reading). w.failed) i.reader ∙ fresh.0)))
         (λ q u p. not_or_default v i j.0 j.1 u.0 u.1 p);
   }
-  or_default_rejected None at not_taken e = absurd (not_both (accepted_by (some_passes is) c1.reader.mode None) (none_taken is c1.reader.mode) not_taken)
+  or_default_rejected None at not_taken e = absurd (true_not_false (accepted_by (some_passes is) c1.reader.mode None) (none_taken is c1.reader.mode) not_taken)
 
   or_default_both : (v : A) (w : Result V ASN1Error) → Chose (OmitsDefault is B k l) ts c v c1 → ReadsPicks (P k l) (encodings_of c1.list.items) w →
       ReadsPicks (OrDefaultPick is B P k l) qs (paired (Some v) w)
@@ -777,7 +770,7 @@ module _ {A V : Type 0} {ts us : List Tag} {E : A → A → Type 0} {F : V → V
     reads = λ fresh found.
         let i = default_is (Ok (Some v)) at fresh found in
         let mode = ap (λ (u : Reading). u.mode) i.reader in
-        let j = taken_if is k v (subst (λ o. accepted_by (some_passes is) o (Some v) ≡ true) mode taken) in
+        let j = is_taken (some_passes is) k (Some v) (subst (λ o. accepted_by (some_passes is) o (Some v) ≡ true) mode taken) in
         subst (ReadsPicks (OrDefaultPick is B P k l) qs) (paired_result (Some v) r2 c2.reader.failed c2.list.items)
         (or_default_both v (set_result r2 c2) (omitting v i j) (after x begins whole y above none c c1 v r2 c2 fresh i s));
   }

@@ -16,6 +16,7 @@ use Rattle.yasna_base.proofs.Identifier.{begins_once, begins_with, class_same}
 use Rattle.yasna_base.proofs.Optional.{IsUnambiguousBefore}
 use Rattle.yasna_base.proofs.Pieces.{starts_not_end}
 use Rattle.yasna_notation.specs.Notation.{IsNotation}
+use Rattle.yasna_notation_constraints.specs.TestedDefaults.{true_not_false}
 
 -- s begins with a tag that the test passes, which isn't that of the end of contents
 pub record StartsWithin (may : Tag → Bool) (s : List ℕ) : Type 0 where
@@ -70,10 +71,6 @@ fails false false e = record { first = refl; second = refl }
 either_true : (a b : Bool) → a || b ≡ true → (a ≡ true) ⊎ (b ≡ true)
 either_true true b e = inl refl
 either_true false b e = inr e
-
-pub true_not_false : (a : Bool) → a ≡ true → a ≡ false → ⊥
-true_not_false true e f = absurd (cc)
-true_not_false false e f = absurd (cc)
 
 -- a tag that passes is none of some tags, of which none passes
 pub none_passes : (may : Tag → Bool) (ts : List Tag) (t : Tag) → none_may may ts ≡ true → list_any (is_tag t) ts ≡ true → may t ≡ true → ⊥

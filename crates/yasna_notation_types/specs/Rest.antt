@@ -18,24 +18,7 @@ use Rattle.yasna_base.proofs.SequenceOf.{elements_contents, elements_written}
 use Rattle.yasna_reader.proofs.PartsByTags.{BeginInRange, end_in_range}
 use Rattle.yasna_notation.specs.Elements.{elements_joined}
 use Rattle.yasna_notation.specs.Notation.{IsNotation}
-use Rattle.yasna_notation.specs.Parts.{AreParts}
-
--- the laws of contents whose values represent those of others
-pub contents_along : {U A : Type 0} {E : A → A → Type 0} {C : Grammar A} {S : Members} (f : U → A) → IsContentsCoding E C S →
-    IsContentsCoding (λ v w. E (f v) (f w)) (λ m n v c. C m n (f v) c) S
-contents_along f x = record {
-  meaning = record {
-    equal = record {
-      reflexive = λ v. x.meaning.equal.reflexive (f v);
-      symmetric = λ v w. x.meaning.equal.symmetric (f v) (f w);
-      transitive = λ u v w. x.meaning.equal.transitive (f u) (f v) (f w);
-    };
-    among = λ m n v. x.meaning.among m n (f v);
-    exact = λ m n k v w. x.meaning.exact m n k (f v) (f w);
-    deeper = λ m n k v. x.meaning.deeper m n k (f v);
-  };
-  ends = x.ends;
-}
+use Rattle.yasna_notation.specs.Parts.{AreParts, contents_along}
 
 -- elements begin with a tag of 64 bits, or there are none
 pub elements_in_range : {A : Type 0} {E : A → A → Type 0} {B : Grammar A} {S : Members} → IsCoding E B S → BeginInRange (AnyElements S)

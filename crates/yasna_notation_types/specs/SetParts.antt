@@ -1,6 +1,6 @@
 -- SET of parts: in any order in BER, in the order of their tags in DER and CER (X.690, 8.11, 9.3 and 10.3).
 use Rattle.std.proofs.Common.{◌≡◌, ◌∷◌, ◌++◌, [], ◌+◌, ◌<◌, ◌≤◌, ◌&&◌, ℕ, zero, suc, List, Bool, true, false, not, Option, Some, None, inl, inr, length, refl, sym, ap, ap₂, subst, ◌∙◌, arith}
-use Rattle.std.proofs.lemmas.Bool.{and_parts}
+use Rattle.std.proofs.lemmas.Bool.{and_parts, not-true}
 use Rattle.std.specs.List.{AllByRecursion, concat}
 use Rattle.std.specs.List.Sorted.{IsSorted}
 use Rattle.std.specs.Ordering.{is_lt}
@@ -41,7 +41,7 @@ use Rattle.yasna_notation.specs.Laws.{element_lawful}
 use Rattle.yasna_notation.specs.Notation.{IsNotation, NotationKeepsLaws, IsWrittenAs}
 use Rattle.yasna_notation.specs.Parts.{AreParts}
 use Rattle.yasna_notation_constraints.specs.OrDefault.{SameOrDefault, OrDefaultOf}
-use Rattle.yasna_notation_constraints.specs.TestedDefaults.{IsOneValue}
+use Rattle.yasna_notation_constraints.specs.TestedDefaults.{IsOneValue, true_not_false}
 
 -- which encodings, in some order, encode the parts of a value
 abbrev pub Pieced : Type 0 → Type 1
@@ -211,13 +211,21 @@ no_set_parts = record {
   raw = λ m n b p. absurd p;
 }
 
-pub not_true : (b : Bool) → not b ≡ true → b ≡ false
-not_true true e = absurd (cc)
-not_true false e = refl
-
-pub not_both : (b : Bool) → b ≡ true → b ≡ false → ⊥
-not_both true e f = absurd (cc)
-not_both false e f = absurd (cc)
+-- the parts of a SET whose values represent those of others satisfy the laws
+pub represented_set_parts : {U V : Type 0} {ts : List Tag} {E : V → V → Type 0} {C : Grammar V} {P : Pieced V} {M : Members} (f : U → V) →
+    AreSetParts ts E C P M → AreSetParts ts (λ v w. E (f v) (f w)) (λ m n v c. C m n (f v) c) (λ m n v ps. P m n (f v) ps) M
+represented_set_parts f x = record {
+  within = λ m n v. x.within m n (f v);
+  begins = x.begins;
+  opens = x.opens;
+  prefix_free = x.prefix_free;
+  exact = λ m n k v w. x.exact m n k (f v) (f w);
+  deeper = λ m n k v. x.deeper m n k (f v);
+  listed = λ m n v. x.listed m n (f v);
+  parted = λ m n v. x.parted m n (f v);
+  ordered = λ m n v. x.ordered m n (f v);
+  raw = x.raw;
+}
 
 -- a tag with which x begins comes after t
 record After (t : Tag) (x : List ℕ) : Type 0 where
@@ -231,7 +239,7 @@ after_of t (w ∷ ws) x g (inl b) =
     let z = and_parts (is_lt (tag_cmp t w)) (not (is_lt (tag_cmp w t))) y.0 in
     record {
       after = λ u c. subst (λ k. is_lt (tag_cmp t k) ≡ true) (begins_once w u x b c) z.0;
-      not_before = λ u c. subst (λ k. is_lt (tag_cmp k t) ≡ false) (begins_once w u x b c) (not_true (is_lt (tag_cmp w t)) z.1);
+      not_before = λ u c. subst (λ k. is_lt (tag_cmp k t) ≡ false) (begins_once w u x b c) (not-true (is_lt (tag_cmp w t)) z.1);
     }
 after_of t (w ∷ ws) x g (inr b) =
     after_of t ws x (and_parts (is_lt (tag_cmp t w) && not (is_lt (tag_cmp w t))) (tag_precedes t ws) g).1 b
@@ -249,7 +257,7 @@ none_before t [] z a x b e h asc all = absurd e
 none_before t (w ∷ []) z [] x b e h asc all = absurd (e.1)
 none_before t (w ∷ []) z (y ∷ a) x b e h asc all = absurd (e.1)
 none_before t (w ∷ v ∷ us) z [] x b e h asc all =
-    not_both (is_lt (tag_cmp t w)) (all.0.after w e.0) (subst (λ k. is_lt (tag_cmp k w) ≡ false) (begins_once v t x e.1.0 h) asc.0)
+    true_not_false (is_lt (tag_cmp t w)) (all.0.after w e.0) (subst (λ k. is_lt (tag_cmp k w) ≡ false) (begins_once v t x e.1.0 h) asc.0)
 none_before t (w ∷ v ∷ us) z (y ∷ a) x b e h asc all = none_before t (v ∷ us) y a x b e.1 h asc.1 all.1
 
 is_first : (t : Tag) (us : List Tag) (a : List (List ℕ)) (x : List ℕ) (b : List (List ℕ)) → Each BeginsWithTag us (a ++ (x ∷ b)) →

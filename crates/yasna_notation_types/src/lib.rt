@@ -62,7 +62,7 @@ pub use possible_default::PossibleDefault;
 pub use rest::Rest;
 pub use set_choices::SetAlternatives;
 pub use set_part::{SetPart, read_part};
-pub use set_parts::{Set, SetParts};
+pub use set_parts::{Set, SetParts, read_set_parts_as};
 pub use statuses::{ResponseStatus, ResultCode};
 pub use tag_names::{Private, Universal};
 pub use tagged_fields::{

@@ -22,7 +22,7 @@ use std::marker::PhantomData;
 use yasna_base::tags::TAG_SET;
 use yasna_base::{ASN1Error, ASN1ErrorKind, ASN1Result, BERMode, Tag};
 use yasna_notation::{
-    CanonicalNotation, CanonicalParts, Notation, Optional, Parts, PartsBy, Sequence,
+    CanonicalNotation, CanonicalParts, Notation, Optional, Parts, PartsBy, Represents, Sequence,
 };
 use yasna_reader::{BERReader, BERReaderSet};
 use yasna_writer::{DERWriter, PrependBuffer};
@@ -119,6 +119,22 @@ impl<A: SetPart, W: SetParts> SetParts for (Optional<A>, W) {
     }
 
     ghost set_laws = { λ a. set_option_laws A.is_known (λ b. (A.lawful b).own) W.set_laws a };
+}
+
+/// Reads parts from the elements of a SET, as a value of a type whose values represent those of the parts.
+#[inline(always)]
+pub fn read_set_parts_as<P: SetParts, T: Represents<P::Values>>(
+    set: &mut BERReaderSet,
+) -> ASN1Result<T>
+where
+    P::Values: Drop,
+    requires { P.set_unambiguous ≡ true }
+    ensures { ReadsSetParts (λ m n v ps. P.picks m n (T.value_of v) ps) set.old result set.new }
+{
+    match P::read_set_parts(set) {
+        Ok(values) => Ok(T::from_value(values)),
+        Err(error) => Err(error),
+    }
 }
 
 /// `SET { P }`, as `Set<(bool, (Optional<i64>, ()))>`.
