@@ -11,6 +11,7 @@ Rattle.std.specs.Str: bytes_eq chars
 Rattle.std.proofs.Common: ap arith
 Rattle.yasna_base.specs.Integer: twos
 Rattle.yasna_base.specs.Text: characters
+Rattle.yasna_base.proofs.Canonical: written_along
 Rattle.yasna_base.proofs.Coding: equal_same
 Rattle.yasna_base.proofs.Default: default_alike default_written
 Rattle.yasna_bytes.specs.Contents: big_integer_in
@@ -24,7 +25,7 @@ Rattle.yasna_notation.specs.Making: application context optional_part part set_n
 Rattle.yasna_base.specs.Identifier: universal
 Rattle.yasna_notation_types.specs.Tags: private
 Rattle.yasna_notation.specs.Notation: represented_by
-Rattle.yasna_notation.specs.Parts: detects_false detects_number last_part_laws no_parts
+Rattle.yasna_notation.specs.Parts: detects_false detects_number last_part_laws no_parts represented_parts
 Rattle.yasna_notation.specs.Writing: alternative_written at_most_written bound_written explicit_written list_sized_written no_part_written
 Rattle.yasna_notation.specs.Writing: non_empty_list_written non_empty_set_written octets_sized_written optional_written part_written
 Rattle.yasna_notation.specs.Writing: sequence_of_written sequence_written set_of_written set_sized_written under_application under_context
@@ -44,7 +45,7 @@ Rattle.yasna_notation_types.specs.Others: other_may others_laws others_within po
 Rattle.yasna_notation_types.specs.Others: possible_within
 Rattle.yasna_notation_types.specs.Rest: rest_laws
 Rattle.yasna_notation_types.specs.TestedBits: is_bit_string one_bits
-Rattle.yasna_notation_types.specs.SetParts: no_set_parts set_lawful set_option set_or_default set_part set_with_default set_writes
+Rattle.yasna_notation_types.specs.SetParts: no_set_parts represented_set_parts set_lawful set_option set_or_default set_part set_with_default set_writes
 Rattle.yasna_notation.specs.contracts.simple.BoolNotation.TheImpl.Laws: lawful-law=flag_law non_empty-law=flag_non_empty
 Rattle.yasna_notation.specs.contracts.canonical.BoolCanonicalNotation.TheImpl.Laws: written-law=flag_written
 Rattle.yasna_notation.specs.contracts.simple.UnitNotation.TheImpl.Laws: lawful-law=null_law non_empty-law=null_non_empty
@@ -95,12 +96,12 @@ yasna: ASN1Result BERMode BERReader BERReaderSeq BERReaderSet DERWriter DERWrite
 yasna_notation::Either: First Second
 yasna_notation: Alternatives Application AtMost BigInteger BitString Bounded CanonicalAlternatives CanonicalNotation CanonicalParts Choice Context Default DefaultValue Either
 yasna_notation: Enumerated Exactly Explicit False FromTo Ia5String Implicit Last Message NotEmpty Notation NumericString Optional
-yasna_notation: PartsBy>Parts PartsBy PrintableString Represents Sequence SequenceOf SetOf VisibleString read_as
+yasna_notation: PartsBy>Parts PartsBy PrintableString Represents Sequence SequenceOf SetOf VisibleString read_as read_parts_as
 yasna_notation_constraints: Checked CheckedBy Identifier=TestedIdentifier IdentifierValue IntegerFrom IntegerFromTo IntegerUpTo Natural
 yasna_notation_constraints: Octets=TestedOctets OctetsValue OrDefault Signed SizeFrom SizeFromTo SizeIs TestedDefault Text=TestedText TextValue True Unset
 yasna_notation_constraints: accepts_fields
 yasna_notation_types: AnyUnder Bits=TestedBits BitsValue BmpString EmptyList Named NamedBits Numbered OpenChoice Others Possible PossibleDefault Private
 yasna_notation_types: Rest Set SetPart SetParts Universal has_no_items
-yasna_notation_types: explicit_fields_len implicit_fields_len prepend_explicit_fields prepend_implicit_fields read_part write_explicit_fields
+yasna_notation_types: explicit_fields_len implicit_fields_len prepend_explicit_fields prepend_implicit_fields read_part read_set_parts_as write_explicit_fields
 yasna_notation_types: write_implicit_fields
 ";

@@ -363,7 +363,7 @@ fn field_text(alloc: Global, name: &[u8]) -> Text {
     other
 }
 
-/// The names of the fields of parts, and `unknown` after them.
+/// The names of the fields of parts, and `unknown` and `others` after them.
 pub fn field_names(alloc: Global, parts: &[Part<'_>]) -> Result<Vec<Vec<u8>>, AllocError> {
     let mut names = Vec::new(alloc);
     for part in parts {
@@ -371,6 +371,8 @@ pub fn field_names(alloc: Global, parts: &[Part<'_>]) -> Result<Vec<Vec<u8>>, Al
         keep(&mut names, alloc, text)?;
     }
     let text = distinct(names.as_slice(), field_text(alloc, b"unknown"));
+    keep(&mut names, alloc, text)?;
+    let text = distinct(names.as_slice(), field_text(alloc, b"others"));
     keep(&mut names, alloc, text)?;
     Ok(names)
 }

@@ -113,21 +113,6 @@ pub static VALUE_OF: Listing = Listing {
     rest: ["v.@u", "v.@u"],
 };
 
-/// The values of the fields that a reference leads to in a clause.
-pub static HELD: Listing = Listing {
-    required: "(r.now.@f, ",
-    optional: "(r.now.@f, ",
-    default: "(r.now.@f, ",
-    last: "r.now.@f",
-    end: "tt",
-    close: ")",
-    tested: ["(r.now.@f, ", ")"],
-    possible: "(r.now.@f, ",
-    possible_default: "(r.now.@f, ",
-    possible_close: ")",
-    rest: ["r.now.@u", "r.now.@u"],
-};
-
 /// A pattern of the values.
 pub static PATTERN: Listing = Listing {
     required: "(@f, ",
@@ -156,6 +141,36 @@ pub static NAMES: Listing = Listing {
     possible_default: "@f, ",
     possible_close: "",
     rest: ["@u, ", "@u, "],
+};
+
+/// The fields of a struct in a clause, by those of another one.
+pub static RECORD_OF: Listing = Listing {
+    required: "@f = v.@f; ",
+    optional: "@f = v.@f; ",
+    default: "@f = v.@f; ",
+    last: "@f = v.@f; ",
+    end: "",
+    close: "",
+    tested: ["@f = v.@f; ", ""],
+    possible: "@f = v.@f; ",
+    possible_default: "@f = v.@f; ",
+    possible_close: "",
+    rest: ["@u = v.@u; ", "@u = v.@u; "],
+};
+
+/// The fields of a struct in a clause, by those that a reference leads to.
+pub static RECORD_HELD: Listing = Listing {
+    required: "@f = r.now.@f; ",
+    optional: "@f = r.now.@f; ",
+    default: "@f = r.now.@f; ",
+    last: "@f = r.now.@f; ",
+    end: "",
+    close: "",
+    tested: ["@f = r.now.@f; ", ""],
+    possible: "@f = r.now.@f; ",
+    possible_default: "@f = r.now.@f; ",
+    possible_close: "",
+    rest: ["@u = r.now.@u; ", "@u = r.now.@u; "],
 };
 
 /// References to the fields.
@@ -254,7 +269,8 @@ pub struct Field<'p, 'a> {
 pub struct Fields<'p, 'a> {
     /// The parts.
     pub parts: &'p [Part<'a>],
-    /// The names of their fields, and after them that of the field of the elements that this version doesn't know.
+    /// The names of their fields, and after them those of the field of the elements that this version doesn't know, and of that of the parts that
+    /// follow those of a file.
     pub names: &'p [Vec<u8>],
     /// Which parts these are, in the order of their notations.
     pub order: &'p [Listed],
@@ -326,6 +342,14 @@ impl<'p, 'a> Fields<'p, 'a> {
 
     // The name of the field of the elements that this version doesn't know.
     fn unknown(&self) -> &'p [u8] {
+        match self.names.get(self.parts.len()) {
+            Some(name) => name.as_slice(),
+            None => b"",
+        }
+    }
+
+    /// The name of the field of the parts that follow those of a file.
+    pub fn others(&self) -> &'p [u8] {
         match self.names.last() {
             Some(name) => name.as_slice(),
             None => b"",
@@ -480,13 +504,16 @@ fn put_part(text: &str, field: &Field<'_, '_>, names: &TypeNames, out: &mut Text
 
 // Appends a text with the name of a field for its mark.
 fn put_unknown(text: &str, name: &[u8], out: &mut Text) {
-    match text.split_once("@u") {
-        Some((before, after)) => {
-            out.say(before);
+    let mut is_mark = false;
+    for octet in text.as_bytes() {
+        if is_mark {
             out.put(name);
-            out.say(after);
+            is_mark = false;
+        } else if *octet == b'@' {
+            is_mark = true;
+        } else {
+            out.put_octet(*octet);
         }
-        None => out.say(text),
     }
 }
 

@@ -2,13 +2,17 @@
 
 use crate::item_defaults::set_default_types;
 use crate::open_choices::may_be_absent;
-use crate::parts::{Fields, HELD};
-use crate::sequence_source::{RestName, first_of, set_all, set_references, set_run_texts};
+use crate::parts::{
+    FIELDS, Fields, Listing, NAMES, PATTERN, RECORD_HELD, RECORD_OF, REFERENCES, VALUE_OF,
+};
+use crate::sequence_source::{
+    RestName, first_of, put_before, set_before, set_references, set_run_texts,
+};
 use crate::template::Fragments;
-use crate::templates::{CANONICAL_PARTS_IMPL, PARTS_IMPLS, SET_PARTS_IMPL};
+use crate::templates::{CANONICAL_PARTS_IMPL, INNER_PARTS_IMPL, PARTS_IMPLS, SET_PARTS_IMPL};
 use crate::terms::{TypeName, TypeNames};
 use crate::text::Text;
-use crate::type_source::{CrateSource, Files, put_source, rest_clauses, rest_code, set_clauses};
+use crate::type_source::{CrateSource, Files, put_source, rest_clauses, set_clauses};
 use crate::weights::are_light;
 use std::alloc::{AllocError, Global};
 
@@ -57,20 +61,171 @@ pub fn first_run(fields: &Fields<'_, '_>, names: &TypeNames) -> usize {
     }
 }
 
-// The name of the parts from a place on.
-fn name_of_rest(alloc: Global, name: &TypeName, place: usize) -> Result<RestName, AllocError> {
+// A name with `Parts` or `_parts` and a number after it.
+fn numbered(alloc: Global, name: &[u8], word: &str, number: usize) -> Text {
     let mut text = Text::new(alloc);
-    text.put(name.name.as_slice());
-    text.say("Parts");
-    text.put_number(place as u64);
-    let mut file = Text::new(alloc);
-    file.put(name.file.as_slice());
-    file.say("_parts");
-    file.put_number(place as u64);
-    match (text.finish(), file.finish()) {
-        (Some(name), Some(file)) => Ok(RestName { name, file }),
-        _ => Err(AllocError),
+    text.put(name);
+    text.say(word);
+    text.put_number(number as u64);
+    text
+}
+
+// The line that brings in the name of parts, before those of the parts that follow.
+fn lines_of(alloc: Global, name: &Text, file: &Text, rest: &RestName) -> Text {
+    let mut text = Text::new(alloc);
+    text.say("use crate::");
+    text.put(file.as_slice());
+    text.say("::");
+    text.put(name.as_slice());
+    text.say(";\n");
+    text.put(rest.lines.as_slice());
+    text
+}
+
+// How long what separates fields in braces is.
+const SEPARATOR: usize = 2;
+
+// The fields of the struct of parts, as they are between braces. The last one holds the parts that follow, if any do.
+fn braced(
+    alloc: Global,
+    listing: &'static Listing,
+    fields: &Fields<'_, '_>,
+    is: &str,
+    following: &[u8],
+    names: &TypeNames,
+) -> Text {
+    let mut listed = Text::new(alloc);
+    put_before(listing, fields, b"", names, &mut listed);
+    let mut text = Text::new(alloc);
+    if following.is_empty() {
+        let count = listed.as_slice().len().saturating_sub(SEPARATOR);
+        text.put(first_of(listed.as_slice(), count));
+    } else {
+        text.put(listed.as_slice());
+        text.put(fields.others());
+        text.say(is);
+        text.put(following);
     }
+    if listed.is_cut() {
+        text.cut();
+    }
+    text
+}
+
+// Such fields in braces, after a word.
+fn struct_of(alloc: Global, word: &[u8], fields: &Text) -> Result<Vec<u8>, AllocError> {
+    let mut text = Text::new(alloc);
+    text.put(word);
+    text.say(" { ");
+    text.put(fields.as_slice());
+    text.say(" }");
+    if fields.is_cut() {
+        text.cut();
+    }
+    text.finish().ok_or(AllocError)
+}
+
+// The names and texts of parts.
+fn named_rest(
+    alloc: Global,
+    whole: &TypeName,
+    number: usize,
+    fields: &Fields<'_, '_>,
+    rest: &RestName,
+    names: &TypeNames,
+) -> Result<RestName, AllocError> {
+    let name = numbered(alloc, whole.name.as_slice(), "Parts", number);
+    let file = numbered(alloc, whole.file.as_slice(), "_parts", number);
+    let lines = lines_of(alloc, &name, &file, rest)
+        .finish()
+        .ok_or(AllocError)?;
+    let pattern = braced(alloc, &NAMES, fields, ": ", rest.pattern.as_slice(), names);
+    let value_of = braced(
+        alloc,
+        &RECORD_OF,
+        fields,
+        " = ",
+        rest.value_of.as_slice(),
+        names,
+    );
+    let held = braced(
+        alloc,
+        &RECORD_HELD,
+        fields,
+        " = ",
+        rest.held.as_slice(),
+        names,
+    );
+    Ok(RestName {
+        pattern: struct_of(alloc, name.as_slice(), &pattern)?,
+        value_of: struct_of(alloc, b"record", &value_of)?,
+        held: struct_of(alloc, b"record", &held)?,
+        name: name.finish().ok_or(AllocError)?,
+        file: file.finish().ok_or(AllocError)?,
+        number,
+        lines,
+    })
+}
+
+// A text about the field of the parts that follow, if any do.
+fn of_others(
+    alloc: Global,
+    before: &str,
+    fields: &Fields<'_, '_>,
+    after: &str,
+    rest: &RestName,
+) -> Text {
+    let mut text = Text::new(alloc);
+    if !rest.name.is_empty() {
+        text.say(before);
+        text.put(fields.others());
+        text.say(after);
+    }
+    text
+}
+
+// The field of the parts that follow, if any do.
+fn field_of_others(alloc: Global, fields: &Fields<'_, '_>, rest: &RestName) -> Text {
+    let mut text = of_others(
+        alloc,
+        "    /// The parts that follow.\n    pub ",
+        fields,
+        ": ",
+        rest,
+    );
+    if !rest.name.is_empty() {
+        text.put(rest.name.as_slice());
+        text.say(",\n");
+    }
+    text
+}
+
+// Sets `D` to the fields of the struct of parts, `o` to their values in a clause, `P` to a pattern of their values, `n` to the names of the fields,
+// and `B` to references to them.
+fn set_struct(
+    alloc: Global,
+    fragments: &mut Fragments,
+    fields: &Fields<'_, '_>,
+    rest: &RestName,
+    names: &TypeNames,
+) {
+    let others = field_of_others(alloc, fields, rest);
+    set_before(fragments, b'D', &FIELDS, fields, others.as_slice(), names);
+    let others = of_others(alloc, "v.", fields, "", rest);
+    set_before(fragments, b'o', &VALUE_OF, fields, others.as_slice(), names);
+    let others = of_others(alloc, "", fields, "", rest);
+    set_before(fragments, b'P', &PATTERN, fields, others.as_slice(), names);
+    let others = of_others(alloc, "", fields, ", ", rest);
+    set_before(fragments, b'n', &NAMES, fields, others.as_slice(), names);
+    let others = of_others(alloc, "&value.", fields, "", rest);
+    set_before(
+        fragments,
+        b'B',
+        &REFERENCES,
+        fields,
+        others.as_slice(),
+        names,
+    );
 }
 
 // The source of parts by a name.
@@ -80,7 +235,6 @@ fn rest_source(
     whole: &TypeName,
     own: &RestName,
     rest: &RestName,
-    count: usize,
     fields: &Fields<'_, '_>,
 ) -> Result<Text, AllocError> {
     let mut fragments = Fragments::new(alloc);
@@ -89,15 +243,17 @@ fn rest_source(
     fragments.set_octets(b'O', whole.name.as_slice());
     fragments.set_octets(b'y', rest.file.as_slice());
     fragments.set_octets(b'Y', rest.name.as_slice());
-    let first = fields.first(count);
-    set_run_texts(alloc, &mut fragments, &first, rest, source.names);
-    set_references(&mut fragments, b'E', &first, rest, "*value", source.names);
-    set_all(&mut fragments, b'H', &HELD, fields, source.names);
-    set_default_types(alloc, &mut fragments, source, &first)?;
-    fragments.set_filled(b'V', "@U");
+    set_run_texts(alloc, &mut fragments, fields, rest, source.names);
+    set_references(&mut fragments, b'E', fields, rest, "*value", source.names);
+    set_struct(alloc, &mut fragments, fields, rest, source.names);
+    fragments.set_octets(b'H', own.held.as_slice());
+    set_default_types(alloc, &mut fragments, source, fields)?;
     fragments.set_term(b'7', "@Q", 25);
     fragments.set_term(b'8', "@X", 25);
     fragments.set_term(b'6', "@h", 30);
+    if own.number > 2 {
+        fragments.set_filled(b'I', INNER_PARTS_IMPL);
+    }
     let has_rest = !rest.name.is_empty();
     Ok(finished(alloc, source, whole, has_rest, fields.is_set, &fragments))
 }
@@ -112,8 +268,9 @@ fn finished(
     fragments: &Fragments,
 ) -> Text {
     let mut body = Text::new(alloc);
-    fragments.fill("@ztype Each = @T;\n", &mut body);
+    fragments.fill("@ztype Each = @T;\n\ntype Fields = @U;\n", &mut body);
     fragments.fill(PARTS_IMPLS, &mut body);
+    body.put(fragments.get(b'I'));
     if is_set {
         fragments.fill(SET_PARTS_IMPL, &mut body);
     }
@@ -126,7 +283,9 @@ fn finished(
     fragments.fill(set_clauses(has_rest && is_set), &mut clauses);
     clauses.put(fragments.get(b'j'));
     let mut code = Text::new(alloc);
-    fragments.fill(rest_code(has_rest), &mut code);
+    if has_rest {
+        fragments.fill("use crate::@y::@Y;\n", &mut code);
+    }
     let mut text = Text::new(alloc);
     fragments.fill(
         "//! Parts of `@O`, by one name: what the whole requires of them is proved here once.\n",
@@ -170,22 +329,26 @@ fn no_rest(alloc: Global) -> RestName {
     RestName {
         name: Vec::new(alloc),
         file: Vec::new(alloc),
+        number: 0,
+        lines: Vec::new(alloc),
+        pattern: Vec::new(alloc),
+        value_of: Vec::new(alloc),
+        held: Vec::new(alloc),
     }
 }
 
-// Adds the file of the parts from a place on, and returns its name.
+// Adds the file of parts, before those that follow, and returns what names them.
 fn add_rest(
     alloc: Global,
     source: &CrateSource<'_, '_>,
     whole: &TypeName,
     rest: &RestName,
     number: usize,
-    count: usize,
     fields: &Fields<'_, '_>,
     files: &mut Files,
 ) -> Result<RestName, AllocError> {
-    let own = name_of_rest(alloc, whole, number)?;
-    let text = rest_source(alloc, source, whole, &own, rest, count, fields)?;
+    let own = named_rest(alloc, whole, number, fields, rest, source.names)?;
+    let text = rest_source(alloc, source, whole, &own, rest, fields)?;
     files.add("src/", own.file.as_slice(), ".rt", text)?;
     Ok(own)
 }
@@ -222,8 +385,7 @@ pub fn put_rests(
             whole,
             &rest,
             place.saturating_add(1),
-            count,
-            &fields.from(start),
+            &fields.from(start).first(count),
             files,
         )?;
         rest = own;

@@ -9,13 +9,23 @@ use crate::text::Text;
 use asn1_types::model::{TagClass, TagLayer, TagMode};
 use std::alloc::Global;
 
-/// The name of the parts that follow those of a file, and that of their file. Both are empty if none follow.
+/// The parts that follow those of a file, by one name. All texts are empty if none follow.
 #[derive(Drop)]
 pub struct RestName {
-    /// The name.
+    /// The name, which is also the type of their values.
     pub name: Vec<u8>,
-    /// The file.
+    /// Their file.
     pub file: Vec<u8>,
+    /// The number in these: 2 for those that follow the first ones.
+    pub number: usize,
+    /// The lines that bring in the name, and those of the parts that follow these in turn.
+    pub lines: Vec<u8>,
+    /// A pattern of their values.
+    pub pattern: Vec<u8>,
+    /// Their values in a clause, as those of a struct's fields.
+    pub value_of: Vec<u8>,
+    /// Their values in a clause, as those of the fields that a reference leads to.
+    pub held: Vec<u8>,
 }
 
 // The end of a listing, or the name of the parts that follow.
@@ -67,7 +77,7 @@ pub fn set_run_texts(
 ) {
     let end = end_of(alloc, rest, &NOTATIONS, "", "", false);
     set_listed(fragments, b'T', &NOTATIONS, fields, &end, names);
-    let end = end_of(alloc, rest, &VALUES, "", "Fields", false);
+    let end = end_of(alloc, rest, &VALUES, "", "", false);
     set_listed(fragments, b'U', &VALUES, fields, &end, names);
     let end = end_of(alloc, rest, &LAW, "(", "_parts refl)", true);
     set_listed(fragments, b'Q', &LAW, fields, &end, names);
@@ -100,6 +110,36 @@ pub fn set_references(
         whole
     });
     set_listed(fragments, mark, &REFERENCES, fields, &end, names);
+}
+
+/// Appends parts as a listing says, before a text of those that follow, if any do.
+pub fn put_before(
+    listing: &'static Listing,
+    fields: &Fields<'_, '_>,
+    following: &[u8],
+    names: &TypeNames,
+    out: &mut Text,
+) {
+    let end = if following.is_empty() {
+        listing.end.as_bytes()
+    } else {
+        following
+    };
+    put_parts(listing, fields, end, names, out);
+}
+
+/// Sets a mark to parts as a listing says, before a text of those that follow, if any do.
+pub fn set_before(
+    fragments: &mut Fragments,
+    mark: u8,
+    listing: &'static Listing,
+    fields: &Fields<'_, '_>,
+    following: &[u8],
+    names: &TypeNames,
+) {
+    let mut text = fragments.text();
+    put_before(listing, fields, following, names, &mut text);
+    fragments.set(mark, text);
 }
 
 /// Sets a mark to all parts as a listing says.
@@ -185,9 +225,23 @@ pub fn set_sequence(
     set_run_texts(alloc, fragments, &first, rest, names);
     set_references(fragments, b'R', &first, rest, "value", names);
     set_all(fragments, b'D', &FIELDS, &fields.in_module(), names);
-    set_all(fragments, b'o', &VALUE_OF, fields, names);
+    set_before(
+        fragments,
+        b'o',
+        &VALUE_OF,
+        &first,
+        rest.value_of.as_slice(),
+        names,
+    );
     fragments.set_filled(b'v', "λ v. @o");
-    set_all(fragments, b'P', &PATTERN, fields, names);
+    set_before(
+        fragments,
+        b'P',
+        &PATTERN,
+        &first,
+        rest.pattern.as_slice(),
+        names,
+    );
     set_all(fragments, b'n', &NAMES, &fields.in_module(), names);
     if fields.is_set {
         set_whole_set(fragments);

@@ -137,16 +137,24 @@ pub static VALUE_BODIES: Bodies = Bodies {
     accepts: "<Notated as Checked>::accepts(&value.@F)",
 };
 
-/// Parts of a SEQUENCE by one name. `@R` is their name, `@O` that of the whole, `@H` the values of its fields.
+/// Parts of a SEQUENCE by one name. `@R` is their name, `@O` that of the whole, `@H` the values of its fields, `@E` references to these, and `@B`
+/// those to fields of their own.
 pub static PARTS_IMPLS: &str = "
-/// The values of these parts.
-pub type @RFields = @V;
+/// These parts, and what holds their values.
+#[derive(Drop)]
+pub struct @R {
+@D}
 
-/// These parts.
-pub struct @R;
+impl Represents<Fields> for @R {
+    ghost value_of = { λ v. @o };
+
+    fn from_value(@P: Fields) -> @R {
+        @R { @n}
+    }
+}
 
 impl Parts for @R {
-    type Values = @RFields;
+    type Values = @R;
 
     type Inner = ();
 
@@ -156,53 +164,44 @@ impl Parts for @R {
 
     ghost unambiguous = { ⟦<Each as Parts>⟧.unambiguous };
 
-    ghost parts = { ⟦<Each as Parts>⟧.parts };
+    ghost parts = { λ m n v c. ⟦<Each as Parts>⟧.parts m n (⟦<@R as Represents<Fields>>⟧.value_of v) c };
 
     ghost any_parts = { ⟦<Each as Parts>⟧.any_parts };
 
     ghost may_allocate = { ⟦<Each as Parts>⟧.may_allocate };
 
-    ghost same = { ⟦<Each as Parts>⟧.same };
+    ghost same = { λ v w. ⟦<Each as Parts>⟧.same (⟦<@R as Represents<Fields>>⟧.value_of v) (⟦<@R as Represents<Fields>>⟧.value_of w) };
 
-    ghost encoding = { ⟦<Each as Parts>⟧.encoding };
+    ghost encoding = { λ m v. ⟦<Each as Parts>⟧.encoding m (⟦<@R as Represents<Fields>>⟧.value_of v) };
 
-    ghost depth = { ⟦<Each as Parts>⟧.depth };
+    ghost depth = { λ m v. ⟦<Each as Parts>⟧.depth m (⟦<@R as Represents<Fields>>⟧.value_of v) };
 
-    ghost can = { ⟦<Each as Parts>⟧.can };
+    ghost can = { λ v. ⟦<Each as Parts>⟧.can (⟦<@R as Represents<Fields>>⟧.value_of v) };
 
-    ghost fits = { ⟦<Each as Parts>⟧.fits };
+    ghost fits = { λ m n v. ⟦<Each as Parts>⟧.fits m n (⟦<@R as Represents<Fields>>⟧.value_of v) };
 
     #[inline(always)]
-    fn read_parts(seq: &mut BERReaderSeq) -> ASN1Result<@RFields> {
-        <Each as Parts>::read_parts(seq)
+    fn read_parts(seq: &mut BERReaderSeq) -> ASN1Result<@R> {
+        read_parts_as::<Each, @R>(seq)
     }
 
     #[inline(always)]
-    fn write_parts(values: &@RFields, seq: &mut DERWriterSeq) -> ASN1Result<()> {
-        <Each as Parts>::write_parts(values, seq)
+    fn write_parts(value: &@R, seq: &mut DERWriterSeq) -> ASN1Result<()> {
+        let fields = @B;
+        Each::write_each(&fields, seq)
     }
 
-    #[inline(always)]
-    fn prepend_parts(values: &@RFields, out: &mut PrependBuffer) -> ASN1Result<()> {
-        <Each as Parts>::prepend_parts(values, out)
-    }
-
-    #[inline(always)]
-    fn parts_len(values: &@RFields, mode: BERMode) -> Option<usize> {
-        <Each as Parts>::parts_len(values, mode)
-    }
-
-    ghost laws = { λ _. @7 };
+    ghost laws = { λ _. represented_parts ⟦<@R as Represents<Fields>>⟧.value_of @7 };
 }
 
 impl<'a> PartsBy<&'a @O> for @R {
-    type Held = @RFields;
+    type Held = @R;
 
     ghost held = { λ r. @H };
 
-    ghost encoding_by = { ⟦<Each as Parts>⟧.encoding };
+    ghost encoding_by = { ⟦<@R as Parts>⟧.encoding };
 
-    ghost can_by = { ⟦<Each as Parts>⟧.can };
+    ghost can_by = { ⟦<@R as Parts>⟧.can };
 
     #[inline(always)]
     fn write_each(value: &&'a @O, seq: &mut DERWriterSeq) -> ASN1Result<()> {
@@ -224,16 +223,34 @@ impl<'a> PartsBy<&'a @O> for @R {
 }
 
 impl<'a> CheckedBy<&'a @O> for @R {
-    type Held = @RFields;
+    type Held = @R;
 
     ghost held = { λ r. @H };
 
-    ghost can_by = { ⟦<Each as Parts>⟧.can };
+    ghost can_by = { ⟦<@R as Parts>⟧.can };
 
     #[inline(always)]
     fn accept_each(value: &&'a @O) -> bool {
         let fields = @E;
         Each::accept_each(&fields)
+    }
+}
+";
+
+/// How parts that follow others that follow are written, by a reference to their own struct.
+pub static INNER_PARTS_IMPL: &str = "
+impl<'a> PartsBy<&'a @R> for @R {
+    type Held = @R;
+
+    ghost held = { λ r. r.now };
+
+    ghost encoding_by = { ⟦<@R as Parts>⟧.encoding };
+
+    ghost can_by = { ⟦<@R as Parts>⟧.can };
+
+    #[inline(always)]
+    fn write_each(value: &&'a @R, seq: &mut DERWriterSeq) -> ASN1Result<()> {
+        <@R as Parts>::write_parts(*value, seq)
     }
 }
 ";
@@ -245,23 +262,23 @@ impl SetParts for @R {
 
     ghost members = { ⟦<Each as SetParts>⟧.members };
 
-    ghost picks = { ⟦<Each as SetParts>⟧.picks };
+    ghost picks = { λ m n v ps. ⟦<Each as SetParts>⟧.picks m n (⟦<@R as Represents<Fields>>⟧.value_of v) ps };
 
     ghost set_unambiguous = { ⟦<Each as SetParts>⟧.set_unambiguous };
 
     #[inline(always)]
-    fn read_set_parts(set: &mut BERReaderSet) -> ASN1Result<@RFields> {
-        <Each as SetParts>::read_set_parts(set)
+    fn read_set_parts(set: &mut BERReaderSet) -> ASN1Result<@R> {
+        read_set_parts_as::<Each, @R>(set)
     }
 
-    ghost set_laws = { λ _. @6 };
+    ghost set_laws = { λ _. represented_set_parts ⟦<@R as Represents<Fields>>⟧.value_of @6 };
 }
 ";
 
 /// The impl of parts of which what BER reads is written in DER.
 pub static CANONICAL_PARTS_IMPL: &str = "
 impl CanonicalParts for @R {
-    ghost written = { λ _. @8 };
+    ghost written = { λ _. written_along ⟦<@R as Represents<Fields>>⟧.value_of @8 };
 }
 ";
 

@@ -240,15 +240,6 @@ pub fn rest_clauses(has_rest: bool, is_canonical: bool) -> &'static str {
     }
 }
 
-/// The lines of code that bring in the parts that follow others, by `@y` and `@Y`.
-pub fn rest_code(has_rest: bool) -> &'static str {
-    if has_rest {
-        "use crate::@y::{@Y, @YFields};\n"
-    } else {
-        ""
-    }
-}
-
 // A SEQUENCE or a SET: its parts, the order of their notations, and the tags around it.
 #[derive(Clone, Copy)]
 struct Constructed<'p, 'a> {
@@ -284,6 +275,7 @@ fn add_constructed(
     let has_rest = !rest.name.is_empty();
     fragments.set_octets(b'y', rest.file.as_slice());
     fragments.set_octets(b'Y', rest.name.as_slice());
+    fragments.set_octets(b'g', rest.lines.as_slice());
     let names = source.names;
     let count = first_run(&fields, names);
     set_sequence(alloc, &mut fragments, count, &rest, &fields, of.tags, names);
@@ -297,7 +289,7 @@ fn add_constructed(
         name,
         &mut fragments,
         "@e@1@j",
-        rest_code(has_rest),
+        "@g",
         files,
     )
 }

@@ -20,9 +20,7 @@ ghost use Rattle.pkix_implicit.specs.contracts.distribution_point_name.Distribut
 ghost use Rattle.pkix_implicit.specs.contracts.issuing_distribution_point_parts2.IssuingDistributionPointParts2Parts.TheImpl.Laws.{laws-law as issuing_distribution_point_parts2_parts};
 
 use crate::distribution_point_name::DistributionPointName;
-use crate::issuing_distribution_point_parts2::{
-    IssuingDistributionPointParts2, IssuingDistributionPointParts2Fields,
-};
+use crate::issuing_distribution_point_parts2::IssuingDistributionPointParts2;
 use yasna::{ASN1Result, BERMode, BERReader, DERWriter, PrependBuffer, Tag};
 use yasna_notation::{
     Context, Default, Explicit, Implicit, Message, Notation, Optional, Represents, Sequence,
@@ -43,7 +41,7 @@ type Parts = (
 
 type Fields = (
     Option<DistributionPointName>,
-    (bool, (bool, IssuingDistributionPointParts2Fields)),
+    (bool, (bool, IssuingDistributionPointParts2)),
 );
 
 type Notated = Sequence<Parts>;
@@ -60,7 +58,7 @@ pub struct IssuingDistributionPoint {
 }
 
 impl Represents<Fields> for IssuingDistributionPoint {
-    ghost value_of = { λ v. (v.distribution_point, (v.only_contains_user_certs, (v.only_contains_ca_certs, (v.only_some_reasons, (v.indirect_crl, (v.only_contains_attribute_certs, tt)))))) };
+    ghost value_of = { λ v. (v.distribution_point, (v.only_contains_user_certs, (v.only_contains_ca_certs, record { only_some_reasons = v.only_some_reasons; indirect_crl = v.indirect_crl; only_contains_attribute_certs = v.only_contains_attribute_certs }))) };
 
     fn from_value(
         (
@@ -69,7 +67,11 @@ impl Represents<Fields> for IssuingDistributionPoint {
                 only_contains_user_certs,
                 (
                     only_contains_ca_certs,
-                    (only_some_reasons, (indirect_crl, (only_contains_attribute_certs, ()))),
+                    IssuingDistributionPointParts2 {
+                        only_some_reasons,
+                        indirect_crl,
+                        only_contains_attribute_certs,
+                    },
                 ),
             ),
         ): Fields,

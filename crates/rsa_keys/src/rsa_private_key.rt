@@ -27,7 +27,7 @@ ghost use Rattle.rsa_keys.specs.contracts.rsa_private_key_parts2.RsaPrivateKeyPa
 ghost use Rattle.rsa_keys.specs.contracts.rsa_private_key_parts2.RsaPrivateKeyParts2CanonicalParts.TheImpl.Laws.{written-law as rsa_private_key_parts2_written};
 
 use crate::other_prime_infos::OtherPrimeInfos;
-use crate::rsa_private_key_parts2::{RsaPrivateKeyParts2, RsaPrivateKeyParts2Fields};
+use crate::rsa_private_key_parts2::RsaPrivateKeyParts2;
 use yasna::{ASN1Result, BERMode, BERReader, DERWriter, PrependBuffer, Tag};
 use yasna_notation::{
     AtMost, BigInteger, Bounded, CanonicalNotation, Message, Notation, Represents, Sequence,
@@ -54,10 +54,7 @@ type Fields = (
             (Vec<u8>, bool),
             (
                 (Vec<u8>, bool),
-                (
-                    (Vec<u8>, bool),
-                    ((Vec<u8>, bool), RsaPrivateKeyParts2Fields),
-                ),
+                ((Vec<u8>, bool), ((Vec<u8>, bool), RsaPrivateKeyParts2)),
             ),
         ),
     ),
@@ -81,7 +78,7 @@ pub struct RsaPrivateKey {
 }
 
 impl Represents<Fields> for RsaPrivateKey {
-    ghost value_of = { λ v. (v.version, (v.modulus, (v.public_exponent, (v.private_exponent, (v.prime1, (v.prime2, (v.exponent1, (v.exponent2, (v.coefficient, (v.other_prime_infos, tt)))))))))) };
+    ghost value_of = { λ v. (v.version, (v.modulus, (v.public_exponent, (v.private_exponent, (v.prime1, (v.prime2, record { exponent1 = v.exponent1; exponent2 = v.exponent2; coefficient = v.coefficient; other_prime_infos = v.other_prime_infos })))))) };
 
     fn from_value(
         (
@@ -96,7 +93,12 @@ impl Represents<Fields> for RsaPrivateKey {
                             prime1,
                             (
                                 prime2,
-                                (exponent1, (exponent2, (coefficient, (other_prime_infos, ())))),
+                                RsaPrivateKeyParts2 {
+                                    exponent1,
+                                    exponent2,
+                                    coefficient,
+                                    other_prime_infos,
+                                },
                             ),
                         ),
                     ),

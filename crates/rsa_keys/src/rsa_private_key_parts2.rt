@@ -1,7 +1,8 @@
 //! Parts of `RsaPrivateKey`, by one name: what the whole requires of them is proved here once.
 ghost use Rattle.std.specs.Prelude.{◌≡◌, ◌↔◌, IsTrue, refl};
+ghost use Rattle.yasna_base.proofs.Canonical.{written_along};
 ghost use Rattle.yasna_notation.specs.Making.{optional_part, part};
-ghost use Rattle.yasna_notation.specs.Parts.{no_parts};
+ghost use Rattle.yasna_notation.specs.Parts.{no_parts, represented_parts};
 ghost use Rattle.yasna_notation.specs.Writing.{no_part_written, optional_written, part_written};
 ghost use Rattle.yasna_notation.specs.contracts.simple.BigIntegerNotation.TheImpl.Laws.{lawful-law as big_law};
 ghost use Rattle.yasna_notation.specs.contracts.canonical.BigIntegerCanonicalNotation.TheImpl.Laws.{written-law as big_written};
@@ -11,7 +12,9 @@ ghost use Rattle.rsa_keys.specs.contracts.other_prime_infos.OtherPrimeInfosCanon
 use crate::other_prime_infos::OtherPrimeInfos;
 use crate::rsa_private_key::RsaPrivateKey;
 use yasna::{ASN1Result, BERMode, BERReaderSeq, DERWriterSeq, PrependBuffer};
-use yasna_notation::{BigInteger, CanonicalParts, Optional, Parts, PartsBy};
+use yasna_notation::{
+    BigInteger, CanonicalParts, Optional, Parts, PartsBy, Represents, read_parts_as,
+};
 use yasna_notation_constraints::CheckedBy;
 
 type Each = (
@@ -19,8 +22,7 @@ type Each = (
     (BigInteger, (BigInteger, (Optional<OtherPrimeInfos>, ()))),
 );
 
-/// The values of these parts.
-pub type RsaPrivateKeyParts2Fields = (
+type Fields = (
     (Vec<u8>, bool),
     (
         (Vec<u8>, bool),
@@ -28,11 +30,32 @@ pub type RsaPrivateKeyParts2Fields = (
     ),
 );
 
-/// These parts.
-pub struct RsaPrivateKeyParts2;
+/// These parts, and what holds their values.
+#[derive(Drop)]
+pub struct RsaPrivateKeyParts2 {
+    pub exponent1: (Vec<u8>, bool),
+    pub exponent2: (Vec<u8>, bool),
+    pub coefficient: (Vec<u8>, bool),
+    pub other_prime_infos: Option<OtherPrimeInfos>,
+}
+
+impl Represents<Fields> for RsaPrivateKeyParts2 {
+    ghost value_of = { λ v. (v.exponent1, (v.exponent2, (v.coefficient, (v.other_prime_infos, tt)))) };
+
+    fn from_value(
+        (exponent1, (exponent2, (coefficient, (other_prime_infos, ())))): Fields,
+    ) -> RsaPrivateKeyParts2 {
+        RsaPrivateKeyParts2 {
+            exponent1,
+            exponent2,
+            coefficient,
+            other_prime_infos,
+        }
+    }
+}
 
 impl Parts for RsaPrivateKeyParts2 {
-    type Values = RsaPrivateKeyParts2Fields;
+    type Values = RsaPrivateKeyParts2;
 
     type Inner = ();
 
@@ -42,57 +65,51 @@ impl Parts for RsaPrivateKeyParts2 {
 
     ghost unambiguous = { ⟦<Each as Parts>⟧.unambiguous };
 
-    ghost parts = { ⟦<Each as Parts>⟧.parts };
+    ghost parts = { λ m n v c. ⟦<Each as Parts>⟧.parts m n (⟦<RsaPrivateKeyParts2 as Represents<Fields>>⟧.value_of v) c };
 
     ghost any_parts = { ⟦<Each as Parts>⟧.any_parts };
 
     ghost may_allocate = { ⟦<Each as Parts>⟧.may_allocate };
 
-    ghost same = { ⟦<Each as Parts>⟧.same };
+    ghost same = { λ v w. ⟦<Each as Parts>⟧.same (⟦<RsaPrivateKeyParts2 as Represents<Fields>>⟧.value_of v) (⟦<RsaPrivateKeyParts2 as Represents<Fields>>⟧.value_of w) };
 
-    ghost encoding = { ⟦<Each as Parts>⟧.encoding };
+    ghost encoding = { λ m v. ⟦<Each as Parts>⟧.encoding m (⟦<RsaPrivateKeyParts2 as Represents<Fields>>⟧.value_of v) };
 
-    ghost depth = { ⟦<Each as Parts>⟧.depth };
+    ghost depth = { λ m v. ⟦<Each as Parts>⟧.depth m (⟦<RsaPrivateKeyParts2 as Represents<Fields>>⟧.value_of v) };
 
-    ghost can = { ⟦<Each as Parts>⟧.can };
+    ghost can = { λ v. ⟦<Each as Parts>⟧.can (⟦<RsaPrivateKeyParts2 as Represents<Fields>>⟧.value_of v) };
 
-    ghost fits = { ⟦<Each as Parts>⟧.fits };
+    ghost fits = { λ m n v. ⟦<Each as Parts>⟧.fits m n (⟦<RsaPrivateKeyParts2 as Represents<Fields>>⟧.value_of v) };
 
     #[inline(always)]
-    fn read_parts(seq: &mut BERReaderSeq) -> ASN1Result<RsaPrivateKeyParts2Fields> {
-        <Each as Parts>::read_parts(seq)
+    fn read_parts(seq: &mut BERReaderSeq) -> ASN1Result<RsaPrivateKeyParts2> {
+        read_parts_as::<Each, RsaPrivateKeyParts2>(seq)
     }
 
     #[inline(always)]
-    fn write_parts(values: &RsaPrivateKeyParts2Fields, seq: &mut DERWriterSeq) -> ASN1Result<()> {
-        <Each as Parts>::write_parts(values, seq)
+    fn write_parts(value: &RsaPrivateKeyParts2, seq: &mut DERWriterSeq) -> ASN1Result<()> {
+        let fields = (
+            &value.exponent1,
+            (
+                &value.exponent2,
+                (&value.coefficient, (&value.other_prime_infos, ())),
+            ),
+        );
+        Each::write_each(&fields, seq)
     }
 
-    #[inline(always)]
-    fn prepend_parts(
-        values: &RsaPrivateKeyParts2Fields,
-        out: &mut PrependBuffer,
-    ) -> ASN1Result<()> {
-        <Each as Parts>::prepend_parts(values, out)
-    }
-
-    #[inline(always)]
-    fn parts_len(values: &RsaPrivateKeyParts2Fields, mode: BERMode) -> Option<usize> {
-        <Each as Parts>::parts_len(values, mode)
-    }
-
-    ghost laws = { λ _. (part (big_law refl).own (part (big_law refl).own (part (big_law refl).own (optional_part refl
+    ghost laws = { λ _. represented_parts ⟦<RsaPrivateKeyParts2 as Represents<Fields>>⟧.value_of (part (big_law refl).own (part (big_law refl).own (part (big_law refl).own (optional_part refl
         (other_prime_infos_law refl).own no_parts)))) };
 }
 
 impl<'a> PartsBy<&'a RsaPrivateKey> for RsaPrivateKeyParts2 {
-    type Held = RsaPrivateKeyParts2Fields;
+    type Held = RsaPrivateKeyParts2;
 
-    ghost held = { λ r. (r.now.exponent1, (r.now.exponent2, (r.now.coefficient, (r.now.other_prime_infos, tt)))) };
+    ghost held = { λ r. record { exponent1 = r.now.exponent1; exponent2 = r.now.exponent2; coefficient = r.now.coefficient; other_prime_infos = r.now.other_prime_infos } };
 
-    ghost encoding_by = { ⟦<Each as Parts>⟧.encoding };
+    ghost encoding_by = { ⟦<RsaPrivateKeyParts2 as Parts>⟧.encoding };
 
-    ghost can_by = { ⟦<Each as Parts>⟧.can };
+    ghost can_by = { ⟦<RsaPrivateKeyParts2 as Parts>⟧.can };
 
     #[inline(always)]
     fn write_each(value: &&'a RsaPrivateKey, seq: &mut DERWriterSeq) -> ASN1Result<()> {
@@ -132,11 +149,11 @@ impl<'a> PartsBy<&'a RsaPrivateKey> for RsaPrivateKeyParts2 {
 }
 
 impl<'a> CheckedBy<&'a RsaPrivateKey> for RsaPrivateKeyParts2 {
-    type Held = RsaPrivateKeyParts2Fields;
+    type Held = RsaPrivateKeyParts2;
 
-    ghost held = { λ r. (r.now.exponent1, (r.now.exponent2, (r.now.coefficient, (r.now.other_prime_infos, tt)))) };
+    ghost held = { λ r. record { exponent1 = r.now.exponent1; exponent2 = r.now.exponent2; coefficient = r.now.coefficient; other_prime_infos = r.now.other_prime_infos } };
 
-    ghost can_by = { ⟦<Each as Parts>⟧.can };
+    ghost can_by = { ⟦<RsaPrivateKeyParts2 as Parts>⟧.can };
 
     #[inline(always)]
     fn accept_each(value: &&'a RsaPrivateKey) -> bool {
@@ -152,6 +169,6 @@ impl<'a> CheckedBy<&'a RsaPrivateKey> for RsaPrivateKeyParts2 {
 }
 
 impl CanonicalParts for RsaPrivateKeyParts2 {
-    ghost written = { λ _. (part_written (big_written refl).own (part_written (big_written refl).own (part_written
+    ghost written = { λ _. written_along ⟦<RsaPrivateKeyParts2 as Represents<Fields>>⟧.value_of (part_written (big_written refl).own (part_written (big_written refl).own (part_written
         (big_written refl).own (optional_written (other_prime_infos_written refl).own no_part_written)))) };
 }

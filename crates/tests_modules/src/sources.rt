@@ -187,8 +187,11 @@ static LONG_CHOICES: [Row; 3] = [
     ),
 ];
 
-// An extensible SEQUENCE: elements after mandatory parts, after others, and between parts.
-static SEQUENCES: [Row; 5] = [
+const FIFTEEN: &[u8] =
+    b"M DEFINITIONS AUTOMATIC TAGS ::= BEGIN Fifteen ::= SEQUENCE { a1 NULL, a2 NULL, a3 NULL, a4 NULL, a5 NULL, a6 NULL, a7 NULL, a8 NULL, a9 NULL, b1 NULL, b2 NULL, b3 NULL, b4 NULL, b5 NULL, b6 NULL } END";
+
+// An extensible SEQUENCE: elements after mandatory parts, after others, and between parts. A long one, which is cut.
+static SEQUENCES: [Row; 8] = [
     (
         b"M DEFINITIONS ::= BEGIN Head ::= SEQUENCE { version INTEGER (0..9), ... } END",
         "src/head.rt",
@@ -213,6 +216,21 @@ static SEQUENCES: [Row; 5] = [
         b"M DEFINITIONS ::= BEGIN Address ::= SEQUENCE { p [0] OCTET STRING OPTIONAL, s [1] OCTET STRING OPTIONAL, t [2] OCTET STRING OPTIONAL, n [3] OCTET STRING } END",
         "src/address.rt",
         "(Optional<Explicit<Context<2>, Vec<u8>>>, (Explicit<Context<3>, Vec<u8>>, ()))));\n",
+    ),
+    (
+        FIFTEEN,
+        "src/fifteen.rt",
+        "(a5, (a6, FifteenParts2 { a7, a8, a9, b1, b2, b3, others: FifteenParts3 { b4, b5, b6 } }))",
+    ),
+    (
+        FIFTEEN,
+        "src/fifteen_parts2.rt",
+        "    ghost held = { λ r. record { a7 = r.now.a7; a8 = r.now.a8; a9 = r.now.a9; b1 = r.now.b1; b2 = r.now.b2; b3 = r.now.b3; others = record { b4 = r.now.b4; b5 = r.now.b5; b6 = r.now.b6 } } };\n",
+    ),
+    (
+        FIFTEEN,
+        "src/fifteen_parts2.rt",
+        "type Fields = ((), ((), ((), ((), ((), ((), FifteenParts3))))));\n",
     ),
 ];
 

@@ -21,7 +21,7 @@ ghost use Rattle.tsp.specs.contracts.message_imprint.MessageImprintNotation.TheI
 ghost use Rattle.tsp.specs.contracts.time_stamp_req_parts2.TimeStampReqParts2Parts.TheImpl.Laws.{laws-law as time_stamp_req_parts2_parts};
 
 use crate::message_imprint::MessageImprint;
-use crate::time_stamp_req_parts2::{TimeStampReqParts2, TimeStampReqParts2Fields};
+use crate::time_stamp_req_parts2::TimeStampReqParts2;
 use x509::Extensions;
 use yasna::models::ObjectIdentifier;
 use yasna::{ASN1Result, BERMode, BERReader, DERWriter, PrependBuffer, Tag};
@@ -50,7 +50,7 @@ type Fields = (
         MessageImprint,
         (
             Option<ObjectIdentifier>,
-            (Option<(Vec<u8>, bool)>, (bool, TimeStampReqParts2Fields)),
+            (Option<(Vec<u8>, bool)>, (bool, TimeStampReqParts2)),
         ),
     ),
 );
@@ -69,10 +69,13 @@ pub struct TimeStampReq {
 }
 
 impl Represents<Fields> for TimeStampReq {
-    ghost value_of = { λ v. (v.version, (v.message_imprint, (v.req_policy, (v.nonce, (v.cert_req, (v.extensions, tt)))))) };
+    ghost value_of = { λ v. (v.version, (v.message_imprint, (v.req_policy, (v.nonce, (v.cert_req, record { extensions = v.extensions }))))) };
 
     fn from_value(
-        (version, (message_imprint, (req_policy, (nonce, (cert_req, (extensions, ())))))): Fields,
+        (
+            version,
+            (message_imprint, (req_policy, (nonce, (cert_req, TimeStampReqParts2 { extensions })))),
+        ): Fields,
     ) -> TimeStampReq {
         TimeStampReq {
             version,

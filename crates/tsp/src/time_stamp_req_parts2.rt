@@ -2,25 +2,35 @@
 ghost use Rattle.std.specs.Prelude.{◌≡◌, ◌↔◌, IsTrue, refl};
 ghost use Rattle.std.proofs.Common.{arith};
 ghost use Rattle.yasna_notation.specs.Making.{in_implicit, optional_part};
-ghost use Rattle.yasna_notation.specs.Parts.{no_parts};
+ghost use Rattle.yasna_notation.specs.Parts.{no_parts, represented_parts};
 ghost use Rattle.x509.specs.contracts.extensions.ExtensionsNotation.TheImpl.Laws.{lawful-law as x509_extensions_law};
 
 use crate::time_stamp_req::TimeStampReq;
 use x509::Extensions;
 use yasna::{ASN1Result, BERMode, BERReaderSeq, DERWriterSeq, PrependBuffer};
-use yasna_notation::{Context, Implicit, Optional, Parts, PartsBy};
+use yasna_notation::{Context, Implicit, Optional, Parts, PartsBy, Represents, read_parts_as};
 use yasna_notation_constraints::CheckedBy;
 
 type Each = (Optional<Implicit<Context<0>, Extensions>>, ());
 
-/// The values of these parts.
-pub type TimeStampReqParts2Fields = (Option<Extensions>, ());
+type Fields = (Option<Extensions>, ());
 
-/// These parts.
-pub struct TimeStampReqParts2;
+/// These parts, and what holds their values.
+#[derive(Drop)]
+pub struct TimeStampReqParts2 {
+    pub extensions: Option<Extensions>,
+}
+
+impl Represents<Fields> for TimeStampReqParts2 {
+    ghost value_of = { λ v. (v.extensions, tt) };
+
+    fn from_value((extensions, ()): Fields) -> TimeStampReqParts2 {
+        TimeStampReqParts2 { extensions }
+    }
+}
 
 impl Parts for TimeStampReqParts2 {
-    type Values = TimeStampReqParts2Fields;
+    type Values = TimeStampReqParts2;
 
     type Inner = ();
 
@@ -30,53 +40,44 @@ impl Parts for TimeStampReqParts2 {
 
     ghost unambiguous = { ⟦<Each as Parts>⟧.unambiguous };
 
-    ghost parts = { ⟦<Each as Parts>⟧.parts };
+    ghost parts = { λ m n v c. ⟦<Each as Parts>⟧.parts m n (⟦<TimeStampReqParts2 as Represents<Fields>>⟧.value_of v) c };
 
     ghost any_parts = { ⟦<Each as Parts>⟧.any_parts };
 
     ghost may_allocate = { ⟦<Each as Parts>⟧.may_allocate };
 
-    ghost same = { ⟦<Each as Parts>⟧.same };
+    ghost same = { λ v w. ⟦<Each as Parts>⟧.same (⟦<TimeStampReqParts2 as Represents<Fields>>⟧.value_of v) (⟦<TimeStampReqParts2 as Represents<Fields>>⟧.value_of w) };
 
-    ghost encoding = { ⟦<Each as Parts>⟧.encoding };
+    ghost encoding = { λ m v. ⟦<Each as Parts>⟧.encoding m (⟦<TimeStampReqParts2 as Represents<Fields>>⟧.value_of v) };
 
-    ghost depth = { ⟦<Each as Parts>⟧.depth };
+    ghost depth = { λ m v. ⟦<Each as Parts>⟧.depth m (⟦<TimeStampReqParts2 as Represents<Fields>>⟧.value_of v) };
 
-    ghost can = { ⟦<Each as Parts>⟧.can };
+    ghost can = { λ v. ⟦<Each as Parts>⟧.can (⟦<TimeStampReqParts2 as Represents<Fields>>⟧.value_of v) };
 
-    ghost fits = { ⟦<Each as Parts>⟧.fits };
+    ghost fits = { λ m n v. ⟦<Each as Parts>⟧.fits m n (⟦<TimeStampReqParts2 as Represents<Fields>>⟧.value_of v) };
 
     #[inline(always)]
-    fn read_parts(seq: &mut BERReaderSeq) -> ASN1Result<TimeStampReqParts2Fields> {
-        <Each as Parts>::read_parts(seq)
+    fn read_parts(seq: &mut BERReaderSeq) -> ASN1Result<TimeStampReqParts2> {
+        read_parts_as::<Each, TimeStampReqParts2>(seq)
     }
 
     #[inline(always)]
-    fn write_parts(values: &TimeStampReqParts2Fields, seq: &mut DERWriterSeq) -> ASN1Result<()> {
-        <Each as Parts>::write_parts(values, seq)
+    fn write_parts(value: &TimeStampReqParts2, seq: &mut DERWriterSeq) -> ASN1Result<()> {
+        let fields = (&value.extensions, ());
+        Each::write_each(&fields, seq)
     }
 
-    #[inline(always)]
-    fn prepend_parts(values: &TimeStampReqParts2Fields, out: &mut PrependBuffer) -> ASN1Result<()> {
-        <Each as Parts>::prepend_parts(values, out)
-    }
-
-    #[inline(always)]
-    fn parts_len(values: &TimeStampReqParts2Fields, mode: BERMode) -> Option<usize> {
-        <Each as Parts>::parts_len(values, mode)
-    }
-
-    ghost laws = { λ _. (optional_part refl (in_implicit 0 (omega arith) (x509_extensions_law refl)).own no_parts) };
+    ghost laws = { λ _. represented_parts ⟦<TimeStampReqParts2 as Represents<Fields>>⟧.value_of (optional_part refl (in_implicit 0 (omega arith) (x509_extensions_law refl)).own no_parts) };
 }
 
 impl<'a> PartsBy<&'a TimeStampReq> for TimeStampReqParts2 {
-    type Held = TimeStampReqParts2Fields;
+    type Held = TimeStampReqParts2;
 
-    ghost held = { λ r. (r.now.extensions, tt) };
+    ghost held = { λ r. record { extensions = r.now.extensions } };
 
-    ghost encoding_by = { ⟦<Each as Parts>⟧.encoding };
+    ghost encoding_by = { ⟦<TimeStampReqParts2 as Parts>⟧.encoding };
 
-    ghost can_by = { ⟦<Each as Parts>⟧.can };
+    ghost can_by = { ⟦<TimeStampReqParts2 as Parts>⟧.can };
 
     #[inline(always)]
     fn write_each(value: &&'a TimeStampReq, seq: &mut DERWriterSeq) -> ASN1Result<()> {
@@ -98,11 +99,11 @@ impl<'a> PartsBy<&'a TimeStampReq> for TimeStampReqParts2 {
 }
 
 impl<'a> CheckedBy<&'a TimeStampReq> for TimeStampReqParts2 {
-    type Held = TimeStampReqParts2Fields;
+    type Held = TimeStampReqParts2;
 
-    ghost held = { λ r. (r.now.extensions, tt) };
+    ghost held = { λ r. record { extensions = r.now.extensions } };
 
-    ghost can_by = { ⟦<Each as Parts>⟧.can };
+    ghost can_by = { ⟦<TimeStampReqParts2 as Parts>⟧.can };
 
     #[inline(always)]
     fn accept_each(value: &&'a TimeStampReq) -> bool {

@@ -26,7 +26,8 @@ ghost use Rattle.tsp.specs.contracts.tst_info_parts2.TstInfoParts2Parts.TheImpl.
 
 use crate::accuracy::Accuracy;
 use crate::message_imprint::MessageImprint;
-use crate::tst_info_parts2::{TstInfoParts2, TstInfoParts2Fields};
+use crate::tst_info_parts2::TstInfoParts2;
+use crate::tst_info_parts3::TstInfoParts3;
 use pkix_implicit::GeneralName;
 use x509::Extensions;
 use yasna::models::{GeneralizedTime, ObjectIdentifier};
@@ -56,7 +57,7 @@ type Fields = (
             MessageImprint,
             (
                 (Vec<u8>, bool),
-                (GeneralizedTime, (Option<Accuracy>, TstInfoParts2Fields)),
+                (GeneralizedTime, (Option<Accuracy>, TstInfoParts2)),
             ),
         ),
     ),
@@ -80,7 +81,7 @@ pub struct TstInfo {
 }
 
 impl Represents<Fields> for TstInfo {
-    ghost value_of = { λ v. (v.version, (v.policy, (v.message_imprint, (v.serial_number, (v.gen_time, (v.accuracy, (v.ordering, (v.nonce, (v.tsa, (v.extensions, tt)))))))))) };
+    ghost value_of = { λ v. (v.version, (v.policy, (v.message_imprint, (v.serial_number, (v.gen_time, (v.accuracy, record { ordering = v.ordering; nonce = v.nonce; tsa = v.tsa; others = record { extensions = v.extensions } })))))) };
 
     fn from_value(
         (
@@ -91,7 +92,18 @@ impl Represents<Fields> for TstInfo {
                     message_imprint,
                     (
                         serial_number,
-                        (gen_time, (accuracy, (ordering, (nonce, (tsa, (extensions, ())))))),
+                        (
+                            gen_time,
+                            (
+                                accuracy,
+                                TstInfoParts2 {
+                                    ordering,
+                                    nonce,
+                                    tsa,
+                                    others: TstInfoParts3 { extensions },
+                                },
+                            ),
+                        ),
                     ),
                 ),
             ),
