@@ -68,11 +68,23 @@ fn natural_range(low: u64, high: u64, is_default: bool) -> Shape {
     }
 }
 
-// An INTEGER from a negative number on, to another number.
+// The nearest number of 64 bits with a sign.
+fn nearest_signed(number: Integer) -> Integer {
+    if is_signed(number) {
+        return number;
+    }
+    Integer {
+        is_negative: number.is_negative,
+        magnitude: if number.is_negative { LEAST } else { GREATEST },
+    }
+}
+
+// An INTEGER from a negative number on, to another number. Bounds past 64 bits are the nearest ones where it has a default.
 fn signed_range(low: Integer, high: Integer, is_default: bool) -> Shape {
-    if !is_signed(low) || !is_signed(high) {
+    if !is_default && !(is_signed(low) && is_signed(high)) {
         return plain(&BIG_INTEGER);
     }
+    let (low, high) = (nearest_signed(low), nearest_signed(high));
     if low.magnitude == LEAST && high.magnitude == GREATEST && !high.is_negative {
         return plain(&INT64);
     }

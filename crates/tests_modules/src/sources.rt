@@ -389,7 +389,7 @@ const HEADS: &[u8] =
     b"M DEFINITIONS ::= BEGIN Head ::= SEQUENCE { id NULL, ..., ..., name UTF8String } Tail ::= SEQUENCE { id NULL, ... } END";
 
 // The lines of types that accept more than the module says, and of those that reject numbers or what a later version adds.
-static LISTED: [Row; 16] = [
+static LISTED: [Row; 17] = [
     (
         b"M DEFINITIONS ::= BEGIN Name ::= CHOICE { text BMPString (SIZE (1..8)), id NULL, other [0] BMPString (SIZE (9)) } END",
         "list",
@@ -464,6 +464,11 @@ static LISTED: [Row; 16] = [
         b"M DEFINITIONS ::= BEGIN Salt ::= SET { size INTEGER (0..MAX) DEFAULT 20 } END",
         "src/salt.rt",
         "//! It rejects numbers that the module allows:\n//!\n//! - `size`: a number past 64 bits is rejected.\n",
+    ),
+    (
+        b"M DEFINITIONS ::= BEGIN Salt ::= SEQUENCE { size INTEGER (-1..18446744073709551615) DEFAULT 3 } END",
+        "src/salt.rt",
+        "type Parts = (Default<Bounded<i64, IntegerFromTo<{ -1 }, 9223372036854775807>>, Signed<3>>, ());\n",
     ),
     (
         b"M DEFINITIONS ::= BEGIN Rows ::= SEQUENCE { rows SEQUENCE OF INTEGER DEFAULT {} } END",
