@@ -295,21 +295,20 @@ pub fn sources_of(
     Ok(files)
 }
 
-// What a type accepts and rejects. `has_all`: it has no number with a default of any size.
-fn judgement(is_no_more: bool, is_closed: bool, has_all: bool) -> &'static str {
-    match (is_no_more, is_closed, has_all) {
-        (true, false, true) => ": exact",
-        (true, false, false) => ": rejects large numbers",
-        (true, true, true) => ": rejects additions",
-        (true, true, false) => ": rejects additions, rejects large numbers",
-        (false, false, true) => ": accepts more",
-        (false, false, false) => ": accepts more, rejects large numbers",
-        (false, true, true) => ": accepts more, rejects additions",
-        (false, true, false) => ": accepts more, rejects additions, rejects large numbers",
+// Appends the words that hold of a type.
+fn put_judged(words: &[(bool, &'static str)], out: &mut Text) {
+    let mut separator = ": ";
+    for (holds, word) in words {
+        if *holds {
+            out.say(separator);
+            out.say(word);
+            separator = ", ";
+        }
     }
+    out.say("\n");
 }
 
-// Appends what the list says of a type, after its path: a judgement, and each reason why it accepts more or rejects numbers.
+// Appends what the list says of a type, after its path: what it accepts and rejects, and each reason why it accepts more or rejects numbers.
 fn put_judgement(
     alloc: Global,
     modules: &[ModuleSource<'_>],
@@ -323,13 +322,17 @@ fn put_judgement(
         out.cut();
         return;
     };
+    let accepts_more = !differences.is_empty();
     let is_closed = rejects_additions(body, name.is_open);
-    out.say(judgement(differences.is_empty(), is_closed, large.is_empty()));
-    out.say(if name.is_canonical {
-        ", canonical\n"
-    } else {
-        "\n"
-    });
+    let rejects_numbers = !large.is_empty();
+    let words = [
+        (!(accepts_more || is_closed || rejects_numbers), "exact"),
+        (accepts_more, "accepts more"),
+        (is_closed, "rejects additions"),
+        (rejects_numbers, "rejects large numbers"),
+        (name.is_canonical, "canonical"),
+    ];
+    put_judged(&words, out);
     put_differences(alloc, modules, body, differences, "    ", "\n", out);
     put_differences(alloc, modules, body, large.as_slice(), "    ", "\n", out);
 }
