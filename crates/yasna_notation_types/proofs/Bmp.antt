@@ -1,5 +1,5 @@
 -- What reading a BMPString does.
-use Rattle.std.proofs.Common.{◌≡◌, ◌∷◌, [], ℕ, List, Bool, true, false, Option, Some, None, String, Result, Ok, Err, ap, subst, refl, arith}
+use Rattle.std.proofs.Common.{◌≡◌, ◌∷◌, [], true, false, Option, String, Result, Ok, Err, ap, subst, arith}
 use Rattle.std.specs.Global.{Global}
 use Rattle.std.specs.List.{list_all}
 use Rattle.yasna_base.specs.declared.error.ASN1Error.{ASN1Error}

@@ -1,5 +1,5 @@
 -- What reading an element with a given tag does.
-use Rattle.std.proofs.Common.{◌≡◌, ◌∷◌, ◌++◌, ◌||◌, [], ℕ, List, Bool, true, false, Option, Some, None, Result, Ok, Err, length, refl, sym, ap, subst, arith}
+use Rattle.std.proofs.Common.{◌≡◌, ◌∷◌, ◌||◌, [], ℕ, List, Bool, true, false, Option, Some, None, Result, Ok, Err, length, refl, sym, ap, subst, arith}
 use Rattle.std.specs.List.{list_any}
 use Rattle.yasna_base.specs.declared.error.ASN1Error.{ASN1Error}
 use Rattle.yasna_base.specs.declared.models.tagged_der_value.TaggedDerValue.{TaggedDerValue}
@@ -22,7 +22,7 @@ use Rattle.yasna_reader.specs.State.{Reading}
 use Rattle.yasna_reader.proofs.NextTag.{looked, found_other}
 use Rattle.yasna_notation.specs.Notation.{ReadsAs}
 use Rattle.yasna_notation.proofs.OneTag.{any_read}
-use Rattle.yasna_notation_types.specs.AnyUnder.{EncodesUnder, given_begins, has_given_tag, is_same_tag}
+use Rattle.yasna_notation_types.specs.AnyUnder.{EncodesUnder, given_begins, is_same_tag}
 use Rattle.yasna_notation_types.specs.OpenChoice.{EncodesRawElement, any_begins}
 
 or_none : (b : Bool) → b || false ≡ b

@@ -5,11 +5,11 @@ use Rattle.yasna_reader.specs.declared.set.SetElement.{SetElement}
 use Rattle.yasna_reader.specs.Parse.{unless_failed}
 use Rattle.yasna_reader.specs.Set.{SetReading, all_taken}
 use Rattle.yasna_notation_types.specs.SetParts.{Pieced}
-use Rattle.yasna_notation_types.specs.SetReading.{encodings_of, set_result, ReadsPicks, ReadsSetParts}
+use Rattle.yasna_notation_types.specs.SetReading.{encodings_of, ReadsPicks, ReadsSetParts}
 
 module _ {U V : Type 0} (f : U → V) (Q : V → List (List ℕ) → Type 0) (ps : List (List ℕ)) where
-  taken_for : (u : U) (v : V) (failed : Option ASN1Error) (l : List SetElement) → f u ≡ v → ReadsPicks Q ps (unless_failed failed (all_taken (Ok v) l)) →
-      ReadsPicks (λ w. Q (f w)) ps (unless_failed failed (all_taken (Ok u) l))
+  taken_for : (u : U) (v : V) (failed : Option ASN1Error) (l : List SetElement) → f u ≡ v →
+      ReadsPicks Q ps (unless_failed failed (all_taken (Ok v) l)) → ReadsPicks (λ w. Q (f w)) ps (unless_failed failed (all_taken (Ok u) l))
   taken_for u v None [] is h = subst (λ w. Q w ps) (sym is) h
   taken_for u v None (x ∷ l) is h = λ k w. h k (f w)
   taken_for u v (Some e) l is h = λ k w. h k (f w)

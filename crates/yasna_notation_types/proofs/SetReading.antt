@@ -1,6 +1,6 @@
 -- What reading the parts of a SET does: each is chosen by its tag from the elements that were found.
 use Rattle.std.proofs.Common.{◌≡◌, ◌∷◌, ◌++◌, [], ◌<◌, ◌≤◌, ℕ, zero, suc, List, Bool, true, false, Option, Some, None, Result, Ok, Err, inl, inr}
-use Rattle.std.proofs.Common.{length, not, refl, sym, ap, ap₂, subst, ◌∙◌, append-nil, length-append, take, drop, arith}
+use Rattle.std.proofs.Common.{length, refl, sym, ap, ap₂, subst, ◌∙◌, append-nil, length-append, take, drop, arith}
 use Rattle.std.proofs.lemmas.Bool.{not-false}
 use Rattle.std.specs.Borrow.{MutBor}
 use Rattle.std.specs.Fn.{Once, FnOnceReturnsAtMut}
@@ -37,7 +37,7 @@ use Rattle.yasna_reader.specs.State.{Reading, IsFresh, Does}
 use Rattle.yasna_reader.proofs.Sequences.{place_after}
 use Rattle.yasna_reader.proofs.Tuples.{IsDecoder}
 use Rattle.yasna_notation.specs.declared.choices.Either.{Either}
-use Rattle.yasna_notation.specs.declared.choices.Either.TheVariants.{First, Second}
+use Rattle.yasna_notation.specs.declared.choices.Either.TheVariants.{First}
 use Rattle.yasna_notation.specs.Choices.{sides}
 use Rattle.yasna_notation.proofs.Contents.{paired}
 use Rattle.yasna.proofs.Closures.{by_run}
@@ -47,7 +47,7 @@ use Rattle.yasna_notation_constraints.proofs.ReadingDefaults.{accepted as is_tak
 use Rattle.yasna_notation_constraints.specs.TestedDefaults.{IsOneValue, some_passes, true_not_false}
 use Rattle.yasna_notation_types.specs.SetParts.{Pieced, PickOf, OptionPick, DefaultPick, OrDefaultPick, OmitsDefault, PickMaybe, PickUnless, AreSetParts}
 use Rattle.yasna_notation_types.specs.SetParts.{tags_precede, all_others, pick_once, others_without, tagged, omits_default}
-use Rattle.yasna_notation_types.specs.SetReading.{encodings_of, AreFound, set_result, ReadsPicks, ReadsSetParts, Chose, ChoseNone, ChoseWrong, ChosenIs, ReadsSetPart, value_or_default, as_second}
+use Rattle.yasna_notation_types.specs.SetReading.{encodings_of, AreFound, set_result, ReadsPicks, ReadsSetParts, Chose, ChoseNone, ChosenIs, ReadsSetPart, value_or_default, as_second}
 
 -- an element was read to its end
 record ReadWhole {A : Type 0} (B : A → List ℕ → Type 0) (z : Reading) (v : A) (w : Reading) : Type 0 where

@@ -1,19 +1,18 @@
 -- BMPString as `yasna` reads it (X.690, 8.23.8), of the texts that don't have U+FFFD.
-use Rattle.std.proofs.Common.{◌≡◌, ◌∷◌, [], ◌<◌, ◌≤◌, ◌^◌, ℕ, List, Bool, true, not, length, map, Option, Some, None, String, refl, sym, ap, ap₂, subst, ◌∙◌}
+use Rattle.std.proofs.Common.{◌≡◌, ◌∷◌, [], ℕ, List, Bool, true, not, map, Option, Some, None, String, refl, ap, ap₂, subst}
 use Rattle.std.proofs.lemmas.Bool.{and_parts}
-use Rattle.std.specs.Char.Utf16.{utf16_chars, utf16_lossy_chars}
+use Rattle.std.specs.Char.Utf16.{utf16_chars}
 use Rattle.std.specs.Global.{Global}
 use Rattle.std.specs.List.{list_all}
-use Rattle.std.specs.Prelude.{◌&&◌, nat_eq, unwrap_or}
+use Rattle.std.specs.Prelude.{nat_eq, unwrap_or}
 use Rattle.yasna_base.specs.declared.mode.BERMode.{BERMode}
-use Rattle.yasna_base.specs.declared.mode.BERMode.TheVariants.{Ber, Der}
+use Rattle.yasna_base.specs.declared.mode.BERMode.TheVariants.{Ber}
 use Rattle.yasna_base.specs.declared.tag.Tag.{Tag}
-use Rattle.yasna_base.specs.Canonical.{IsWritten}
 use Rattle.yasna_base.specs.Coding.{IsCoding, Any}
 use Rattle.yasna_base.specs.Exact.{written_fits}
 use Rattle.yasna_base.specs.Grammar.{TaggedGrammar}
 use Rattle.yasna_base.specs.Identifier.{AnyTag, end_tag, BeginsWithTag}
-use Rattle.yasna_base.specs.Text.{InUtf8, IsTextIn, units, IsBmp, IsPairedBmp, IsStringOf, bmp_octets, bmp_encoding, bmp_depth, characters}
+use Rattle.yasna_base.specs.Text.{units, IsBmp, IsPairedBmp, IsStringOf, bmp_octets, bmp_encoding, bmp_depth, characters}
 use Rattle.yasna_base.specs.UnderTags.{IsExactUnderTags}
 use Rattle.yasna_base.proofs.Bmp.{bmp_coding, bmp_keeps, paired_written}
 use Rattle.yasna_base.proofs.Coding.{along}

@@ -5,7 +5,7 @@ use Rattle.yasna_base.specs.Canonical.{IsWritten, enclosed_encoding, enclosed_de
 use Rattle.yasna_base.specs.Element.{Enclosed, AnyEnclosed}
 use Rattle.yasna_base.specs.Exact.{Fitting, enclosed_fits}
 use Rattle.yasna_base.specs.Grammar.{Grammar, Members, Encoding, Depth}
-use Rattle.yasna_base.specs.Identifier.{end_tag, tag_or, universal}
+use Rattle.yasna_base.specs.Identifier.{tag_or, universal}
 use Rattle.yasna_base.proofs.ExplicitTags.{enclosed_begins, tagged_written}
 use Rattle.yasna_base.proofs.Identifier.{not_end}
 use Rattle.yasna_notation.specs.Canonical.{element_written, implicit_written}

@@ -6,9 +6,9 @@ use Rattle.yasna_base.specs.declared.mode.BERMode.TheVariants.{Ber, Der, Cer}
 use Rattle.yasna_base.specs.declared.tag.Tag.{Tag}
 use Rattle.yasna_base.specs.Bits.{BitString, IsBits, bits_tag, bits_encoding, bits_depth, CanBits, AreCanonicalBits}
 use Rattle.yasna_base.specs.Canonical.{IsCanonicalMode}
-use Rattle.yasna_base.specs.Coding.{IsCoding, Any}
+use Rattle.yasna_base.specs.Coding.{Any}
 use Rattle.yasna_base.specs.Exact.{Fitting, written_fits}
-use Rattle.yasna_base.specs.Grammar.{Grammar, Members}
+use Rattle.yasna_base.specs.Grammar.{Grammar}
 use Rattle.yasna_base.specs.Identifier.{AnyTag, BeginsWithTag, tag_or}
 use Rattle.yasna_base.specs.UnderTags.{IsExactUnderTags}
 use Rattle.yasna_base.proofs.Identifier.{not_end}

@@ -5,7 +5,7 @@ use Rattle.std.specs.List.{AllByRecursion, concat}
 use Rattle.yasna_base.specs.declared.mode.BERMode.{BERMode}
 use Rattle.yasna_base.specs.declared.tag.Tag.{Tag}
 use Rattle.yasna_base.specs.Canonical.{IsWritten}
-use Rattle.yasna_base.specs.Coding.{IsCoding, IsContentsCoding}
+use Rattle.yasna_base.specs.Coding.{IsCoding}
 use Rattle.yasna_base.specs.Exact.{Fitting, elements_fit}
 use Rattle.yasna_base.specs.Grammar.{Grammar, Members, Encoding, Depth}
 use Rattle.yasna_base.specs.Identifier.{AtEnd, BeginsWithTag}
