@@ -4,10 +4,9 @@ use crate::item_defaults::set_default_types;
 use crate::open_choices::may_be_absent;
 use crate::parts::{
     FIELDS, Fields, Listing, NAMES, PATTERN, RECORD_HELD, RECORD_OF, REFERENCES, VALUE_OF,
+    put_parts,
 };
-use crate::sequence_source::{
-    RestName, first_of, put_before, set_before, set_references, set_run_texts,
-};
+use crate::sequence_source::{RestName, first_of, set_before, set_run_texts};
 use crate::template::Fragments;
 use crate::templates::{CANONICAL_PARTS_IMPL, INNER_PARTS_IMPL, PARTS_IMPLS, SET_PARTS_IMPL};
 use crate::terms::{TypeName, TypeNames};
@@ -95,7 +94,7 @@ fn braced(
     names: &TypeNames,
 ) -> Text {
     let mut listed = Text::new(alloc);
-    put_before(listing, fields, b"", names, &mut listed);
+    put_parts(listing, fields, b"", names, &mut listed);
     let mut text = Text::new(alloc);
     if following.is_empty() {
         let count = listed.as_slice().len().saturating_sub(SEPARATOR);
@@ -167,63 +166,27 @@ fn named_rest(
     })
 }
 
-// A text about the field of the parts that follow, if any do.
-fn of_others(
-    alloc: Global,
-    before: &str,
-    fields: &Fields<'_, '_>,
-    after: &str,
-    rest: &RestName,
-) -> Text {
-    let mut text = Text::new(alloc);
-    if !rest.name.is_empty() {
-        text.say(before);
-        text.put(fields.others());
-        text.say(after);
-    }
-    text
-}
-
-// The field of the parts that follow, if any do.
-fn field_of_others(alloc: Global, fields: &Fields<'_, '_>, rest: &RestName) -> Text {
-    let mut text = of_others(
-        alloc,
-        "    /// The parts that follow.\n    pub ",
-        fields,
-        ": ",
-        rest,
-    );
-    if !rest.name.is_empty() {
-        text.put(rest.name.as_slice());
-        text.say(",\n");
-    }
-    text
-}
-
 // Sets `D` to the fields of the struct of parts, `o` to their values in a clause, `P` to a pattern of their values, `n` to the names of the fields,
-// and `B` to references to them.
+// `B` to references to them, and `b` to the name of the field of the parts that follow.
 fn set_struct(
-    alloc: Global,
     fragments: &mut Fragments,
     fields: &Fields<'_, '_>,
     rest: &RestName,
     names: &TypeNames,
 ) {
-    let others = field_of_others(alloc, fields, rest);
-    set_before(fragments, b'D', &FIELDS, fields, others.as_slice(), names);
-    let others = of_others(alloc, "v.", fields, "", rest);
-    set_before(fragments, b'o', &VALUE_OF, fields, others.as_slice(), names);
-    let others = of_others(alloc, "", fields, "", rest);
-    set_before(fragments, b'P', &PATTERN, fields, others.as_slice(), names);
-    let others = of_others(alloc, "", fields, ", ", rest);
-    set_before(fragments, b'n', &NAMES, fields, others.as_slice(), names);
-    let others = of_others(alloc, "&value.", fields, "", rest);
+    fragments.set_octets(b'b', fields.others());
+    let others = "    /// The parts that follow.\n    pub @b: @Y,\n";
+    set_before(fragments, b'D', &FIELDS, fields, rest, others, names);
+    set_before(fragments, b'o', &VALUE_OF, fields, rest, "v.@b", names);
+    set_before(fragments, b'P', &PATTERN, fields, rest, "@b", names);
+    set_before(fragments, b'n', &NAMES, fields, rest, "@b, ", names);
     set_before(
         fragments,
         b'B',
         &REFERENCES,
         fields,
-        others.as_slice(),
+        rest,
+        "&value.@b",
         names,
     );
 }
@@ -244,8 +207,16 @@ fn rest_source(
     fragments.set_octets(b'y', rest.file.as_slice());
     fragments.set_octets(b'Y', rest.name.as_slice());
     set_run_texts(alloc, &mut fragments, fields, rest, source.names);
-    set_references(&mut fragments, b'E', fields, rest, "*value", source.names);
-    set_struct(alloc, &mut fragments, fields, rest, source.names);
+    set_before(
+        &mut fragments,
+        b'E',
+        &REFERENCES,
+        fields,
+        rest,
+        "*value",
+        source.names,
+    );
+    set_struct(&mut fragments, fields, rest, source.names);
     fragments.set_octets(b'H', own.held.as_slice());
     set_default_types(alloc, &mut fragments, source, fields)?;
     fragments.set_term(b'7', "@Q", 25);

@@ -16,7 +16,7 @@ pub struct RestName {
     pub name: Vec<u8>,
     /// Their file.
     pub file: Vec<u8>,
-    /// The number in these: 2 for those that follow the first ones.
+    /// The number of their file: 2 for the parts after the first ones.
     pub number: usize,
     /// The lines that bring in the name, and those of the parts that follow these in turn.
     pub lines: Vec<u8>,
@@ -63,6 +63,9 @@ fn set_listed(
 ) {
     let mut text = fragments.text();
     put_parts(listing, fields, end.as_slice(), names, &mut text);
+    if end.is_cut() {
+        text.cut();
+    }
     fragments.set(mark, text);
 }
 
@@ -94,52 +97,23 @@ pub fn set_run_texts(
     fragments.set(b'z', omitted);
 }
 
-/// Sets a mark to the references to the fields of parts, before this text if others follow.
-pub fn set_references(
-    fragments: &mut Fragments,
-    mark: u8,
-    fields: &Fields<'_, '_>,
-    rest: &RestName,
-    whole: &str,
-    names: &TypeNames,
-) {
-    let mut end = fragments.text();
-    end.say(if rest.name.is_empty() {
-        REFERENCES.end
-    } else {
-        whole
-    });
-    set_listed(fragments, mark, &REFERENCES, fields, &end, names);
-}
-
-/// Appends parts as a listing says, before a text of those that follow, if any do.
-pub fn put_before(
-    listing: &'static Listing,
-    fields: &Fields<'_, '_>,
-    following: &[u8],
-    names: &TypeNames,
-    out: &mut Text,
-) {
-    let end = if following.is_empty() {
-        listing.end.as_bytes()
-    } else {
-        following
-    };
-    put_parts(listing, fields, end, names, out);
-}
-
-/// Sets a mark to parts as a listing says, before a text of those that follow, if any do.
+/// Sets a mark to parts as a listing says, before a text with marks that were set before if others follow.
 pub fn set_before(
     fragments: &mut Fragments,
     mark: u8,
     listing: &'static Listing,
     fields: &Fields<'_, '_>,
-    following: &[u8],
+    rest: &RestName,
+    following: &str,
     names: &TypeNames,
 ) {
-    let mut text = fragments.text();
-    put_before(listing, fields, following, names, &mut text);
-    fragments.set(mark, text);
+    let mut end = fragments.text();
+    if rest.name.is_empty() {
+        end.say(listing.end);
+    } else {
+        fragments.fill(following, &mut end);
+    }
+    set_listed(fragments, mark, listing, fields, &end, names);
 }
 
 /// Sets a mark to all parts as a listing says.
@@ -223,25 +197,13 @@ pub fn set_sequence(
 ) {
     let first = fields.first(count);
     set_run_texts(alloc, fragments, &first, rest, names);
-    set_references(fragments, b'R', &first, rest, "value", names);
+    fragments.set_octets(b'b', rest.value_of.as_slice());
+    fragments.set_octets(b'Z', rest.pattern.as_slice());
+    set_before(fragments, b'R', &REFERENCES, &first, rest, "value", names);
     set_all(fragments, b'D', &FIELDS, &fields.in_module(), names);
-    set_before(
-        fragments,
-        b'o',
-        &VALUE_OF,
-        &first,
-        rest.value_of.as_slice(),
-        names,
-    );
+    set_before(fragments, b'o', &VALUE_OF, &first, rest, "@b", names);
     fragments.set_filled(b'v', "λ v. @o");
-    set_before(
-        fragments,
-        b'P',
-        &PATTERN,
-        &first,
-        rest.pattern.as_slice(),
-        names,
-    );
+    set_before(fragments, b'P', &PATTERN, &first, rest, "@Z", names);
     set_all(fragments, b'n', &NAMES, &fields.in_module(), names);
     if fields.is_set {
         set_whole_set(fragments);

@@ -191,7 +191,7 @@ const FIFTEEN: &[u8] =
     b"M DEFINITIONS AUTOMATIC TAGS ::= BEGIN Fifteen ::= SEQUENCE { a1 NULL, a2 NULL, a3 NULL, a4 NULL, a5 NULL, a6 NULL, a7 NULL, a8 NULL, a9 NULL, b1 NULL, b2 NULL, b3 NULL, b4 NULL, b5 NULL, b6 NULL } END";
 
 // An extensible SEQUENCE: elements after mandatory parts, after others, and between parts. A long one, which is cut.
-static SEQUENCES: [Row; 8] = [
+static SEQUENCES: [Row; 9] = [
     (
         b"M DEFINITIONS ::= BEGIN Head ::= SEQUENCE { version INTEGER (0..9), ... } END",
         "src/head.rt",
@@ -221,6 +221,11 @@ static SEQUENCES: [Row; 8] = [
         FIFTEEN,
         "src/fifteen.rt",
         "(a5, (a6, FifteenParts2 { a7, a8, a9, b1, b2, b3, others: FifteenParts3 { b4, b5, b6 } }))",
+    ),
+    (
+        FIFTEEN,
+        "src/fifteen.rt",
+        "(v.a5, (v.a6, record { a7 = v.a7; a8 = v.a8; a9 = v.a9; b1 = v.b1; b2 = v.b2; b3 = v.b3; others = record { b4 = v.b4; b5 = v.b5; b6 = v.b6 } }))",
     ),
     (
         FIFTEEN,
